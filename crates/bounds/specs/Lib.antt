@@ -1,0 +1,5 @@
+pub mod Kinds
+pub mod Limits
+pub mod Codings
+pub mod PlainKind
+pub mod MarkedKind

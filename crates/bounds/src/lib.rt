@@ -1,0 +1,13 @@
+// Bounds on differences of ages: the interface of a kind with its laws, and two kinds that keep them.
+pub mod bound;
+mod capped;
+pub mod made;
+pub mod marked;
+pub mod plain;
+
+pub use bound::Bound;
+pub use made::MakeError;
+pub use marked::MarkedBound;
+pub use marked::MarkedBoundKind;
+pub use plain::PlainBound;
+pub use plain::PlainBoundKind;

@@ -1,0 +1,75 @@
+// Marked bounds: a whole number, perhaps strict, or no limit.
+ghost use Rattle.bounds.specs.MarkedKind.{marked-kind};
+use crate::bound::Bound;
+use crate::capped::capped_sum;
+use crate::made::LARGEST_NUMBER;
+use crate::made::MakeError;
+
+#[derive(Clone, Copy, PartialEq, Eq, Debug)]
+struct Marked {
+    number: i64,
+    strict: bool,
+}
+
+#[derive(Clone, Copy, PartialEq, Eq, Debug)]
+pub struct MarkedBound {
+    limit: Option<Marked>,
+}
+
+pub impl Bound for MarkedBound as MarkedBoundKind {
+    ghost kind = { marked-kind };
+
+    fn zero() -> MarkedBound {
+        MarkedBound {
+            limit: Some(Marked {
+                number: 0,
+                strict: false,
+            }),
+        }
+    }
+
+    fn no_limit() -> MarkedBound {
+        MarkedBound { limit: None }
+    }
+
+    fn make(number: i32, strict: bool) -> Result<MarkedBound, MakeError> {
+        if number < -LARGEST_NUMBER || LARGEST_NUMBER < number {
+            return Err(MakeError::OutsideLimits);
+        }
+        let number = i64::from(number);
+        Ok(MarkedBound {
+            limit: Some(Marked { number, strict }),
+        })
+    }
+
+    fn sum(self, other: MarkedBound) -> MarkedBound {
+        let (Some(a), Some(b)) = (self.limit, other.limit) else {
+            return MarkedBound { limit: None };
+        };
+        match capped_sum(a.number, b.number) {
+            Some(number) => {
+                let strict = a.strict | b.strict;
+                MarkedBound {
+                    limit: Some(Marked { number, strict }),
+                }
+            }
+            None => MarkedBound { limit: None },
+        }
+    }
+
+    fn at_most(self, other: MarkedBound) -> bool {
+        match (self.limit, other.limit) {
+            (Some(a), Some(b)) => a.number < b.number || a.number == b.number && (a.strict || !b.strict),
+            (_, None) => true,
+            (None, Some(_)) => false,
+        }
+    }
+
+    fn allows(self, difference: i64) -> bool {
+        match self.limit {
+            Some(c) if c.strict => difference < c.number,
+            Some(c) => difference <= c.number,
+            None => true,
+        }
+    }
+}

@@ -3,3 +3,5 @@ pub mod Limits
 pub mod Codings
 pub mod PlainKind
 pub mod MarkedKind
+pub mod Ranges
+pub mod Texts

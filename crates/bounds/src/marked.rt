@@ -1,9 +1,12 @@
 // Marked bounds: a whole number, perhaps strict, or no limit.
-ghost use Rattle.bounds.specs.MarkedKind.{marked-kind};
+ghost use Rattle.bounds.specs.MarkedKind.{marked-kind, marked-limit};
+ghost use Rattle.bounds.specs.Texts.{limit-text};
+ghost use Rattle.std.specs.declared.option.Option.the-variants.{Some};
 use crate::bound::Bound;
 use crate::capped::capped_sum;
 use crate::made::LARGEST_NUMBER;
 use crate::made::MakeError;
+use std::fmt;
 
 #[derive(Clone, Copy, PartialEq, Eq, Debug)]
 struct Marked {
@@ -59,7 +62,8 @@ pub impl Bound for MarkedBound as MarkedBoundKind {
 
     fn at_most(self, other: MarkedBound) -> bool {
         match (self.limit, other.limit) {
-            (Some(a), Some(b)) => a.number < b.number || a.number == b.number && (a.strict || !b.strict),
+            (Some(a), Some(b)) => a.number < b.number
+                || a.number == b.number && (a.strict || !b.strict),
             (_, None) => true,
             (None, Some(_)) => false,
         }
@@ -70,6 +74,28 @@ pub impl Bound for MarkedBound as MarkedBoundKind {
             Some(c) if c.strict => difference < c.number,
             Some(c) => difference <= c.number,
             None => true,
+        }
+    }
+}
+
+pub impl fmt::Display for MarkedBound as MarkedBoundDisplay {
+    ghost shown = { λ b. Some (limit-text (marked-limit (b .limit))) };
+
+    fn fmt<W: fmt::Write>(&self, f: &mut fmt::Formatter<W>) -> fmt::Result {
+        match self.limit {
+            Some(
+                Marked {
+                    number,
+                    strict: true,
+                },
+            ) => write!(f, "{number} strict"),
+            Some(
+                Marked {
+                    number,
+                    strict: false,
+                },
+            ) => write!(f, "{number}"),
+            None => write!(f, "no limit"),
         }
     }
 }

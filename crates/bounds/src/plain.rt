@@ -1,9 +1,12 @@
 // Plain bounds: a whole number, or no limit.
-ghost use Rattle.bounds.specs.PlainKind.{plain-kind};
+ghost use Rattle.bounds.specs.PlainKind.{plain-kind, plain-limit};
+ghost use Rattle.bounds.specs.Texts.{limit-text};
+ghost use Rattle.std.specs.declared.option.Option.the-variants.{Some};
 use crate::bound::Bound;
 use crate::capped::capped_sum;
 use crate::made::LARGEST_NUMBER;
 use crate::made::MakeError;
+use std::fmt;
 
 #[derive(Clone, Copy, PartialEq, Eq, Debug)]
 pub struct PlainBound {
@@ -54,6 +57,17 @@ pub impl Bound for PlainBound as PlainBoundKind {
         match self.limit {
             Some(c) => difference <= c,
             None => true,
+        }
+    }
+}
+
+pub impl fmt::Display for PlainBound as PlainBoundDisplay {
+    ghost shown = { λ b. Some (limit-text (plain-limit (b .limit))) };
+
+    fn fmt<W: fmt::Write>(&self, f: &mut fmt::Formatter<W>) -> fmt::Result {
+        match self.limit {
+            Some(c) => write!(f, "{c}"),
+            None => write!(f, "no limit"),
         }
     }
 }

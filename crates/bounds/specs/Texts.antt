@@ -1,4 +1,4 @@
--- How a bound is written for people.
+-- How a bound is written for people: 5, <5 where it is strict, or no limit.
 -- Assumes nothing.
 use Prim.Native.Nat.{ℕ}
 use lib.Chars.{codes}
@@ -9,5 +9,5 @@ use Rattle.bounds.specs.Limits.{Limit}
 use Rattle.bounds.specs.Limits.Limit.{number, unlimited}
 
 abbrev pub limit-text : Limit → List ℕ
-limit-text (number c s) = cond s (signed c ++ codes " strict") (signed c)
+limit-text (number c s) = cond s (codes "<" ++ signed c) (signed c)
 limit-text unlimited = codes "no limit"

@@ -88,7 +88,7 @@ pub impl fmt::Display for MarkedBound as MarkedBoundDisplay {
                     number,
                     strict: true,
                 },
-            ) => write!(f, "{number} strict"),
+            ) => write!(f, "<{number}"),
             Some(
                 Marked {
                     number,

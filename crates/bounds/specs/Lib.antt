@@ -5,3 +5,4 @@ pub mod PlainKind
 pub mod MarkedKind
 pub mod Ranges
 pub mod Texts
+pub mod MadeTexts

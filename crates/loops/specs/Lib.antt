@@ -1,0 +1,5 @@
+pub mod Lines
+pub mod Readings
+pub mod Loops
+pub mod FaultTexts
+pub mod VerdictTexts

@@ -2,6 +2,7 @@
 ghost use Rattle.bounds.specs.MarkedKind.{marked-kind, marked-limit};
 ghost use Rattle.bounds.specs.Texts.{limit-text};
 ghost use Rattle.std.specs.declared.option.Option.the-variants.{Some};
+ghost use mathlib.Core.Path.{_≡_};
 use crate::bound::Bound;
 use crate::capped::capped_sum;
 use crate::made::LARGEST_NUMBER;
@@ -19,16 +20,21 @@ pub struct MarkedBound {
     limit: Option<Marked>,
 }
 
+impl MarkedBound {
+    fn limited(number: i64, strict: bool) -> MarkedBound
+        ensures { λ r. ⌜ r ≡ record { limit = Some (record { number = number; strict = strict }) } ⌝ }
+    {
+        MarkedBound {
+            limit: Some(Marked { number, strict }),
+        }
+    }
+}
+
 pub impl Bound for MarkedBound as MarkedBoundKind {
     ghost kind = { marked-kind };
 
     fn zero() -> MarkedBound {
-        MarkedBound {
-            limit: Some(Marked {
-                number: 0,
-                strict: false,
-            }),
-        }
+        MarkedBound::limited(0, false)
     }
 
     fn no_limit() -> MarkedBound {
@@ -39,10 +45,7 @@ pub impl Bound for MarkedBound as MarkedBoundKind {
         if number < -LARGEST_NUMBER || LARGEST_NUMBER < number {
             return Err(MakeError::OutsideLimits);
         }
-        let number = i64::from(number);
-        Ok(MarkedBound {
-            limit: Some(Marked { number, strict }),
-        })
+        Ok(MarkedBound::limited(i64::from(number), strict))
     }
 
     fn sum(self, other: MarkedBound) -> MarkedBound {
@@ -50,20 +53,15 @@ pub impl Bound for MarkedBound as MarkedBoundKind {
             return MarkedBound { limit: None };
         };
         match capped_sum(a.number, b.number) {
-            Some(number) => {
-                let strict = a.strict | b.strict;
-                MarkedBound {
-                    limit: Some(Marked { number, strict }),
-                }
-            }
+            Some(number) => MarkedBound::limited(number, a.strict | b.strict),
             None => MarkedBound { limit: None },
         }
     }
 
     fn at_most(self, other: MarkedBound) -> bool {
         match (self.limit, other.limit) {
-            (Some(a), Some(b)) => a.number < b.number
-                || a.number == b.number && (a.strict || !b.strict),
+            (Some(a), Some(b)) if a.number == b.number => a.strict || !b.strict,
+            (Some(a), Some(b)) => a.number < b.number,
             (_, None) => true,
             (None, Some(_)) => false,
         }
@@ -83,18 +81,14 @@ pub impl fmt::Display for MarkedBound as MarkedBoundDisplay {
 
     fn fmt<W: fmt::Write>(&self, f: &mut fmt::Formatter<W>) -> fmt::Result {
         match self.limit {
-            Some(
-                Marked {
-                    number,
-                    strict: true,
-                },
-            ) => write!(f, "<{number}"),
-            Some(
-                Marked {
-                    number,
-                    strict: false,
-                },
-            ) => write!(f, "{number}"),
+            Some(c) => {
+                let number = c.number;
+                if c.strict {
+                    write!(f, "<{number}")
+                } else {
+                    write!(f, "{number}")
+                }
+            }
             None => write!(f, "no limit"),
         }
     }

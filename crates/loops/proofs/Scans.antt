@@ -129,8 +129,8 @@ below-or-past kind c d s same past =
     ⊎-elim
     (λ h. ap (λ z. made kind z s) (same (leb-true (natAbs c) largest-number h)))
     (λ h.
-      let beyond = past (leb-false (natAbs c) largest-number h) in
-      cond-false (leb (natAbs c) largest-number) _ _ h ∙ sym (cond-false (leb (natAbs d) largest-number) _ _ (lt-leb (natAbs d) largest-number beyond)))
+    let beyond = past (leb-false (natAbs c) largest-number h) in
+    cond-false (leb (natAbs c) largest-number) _ _ h ∙ sym (cond-false (leb (natAbs d) largest-number) _ _ (lt-leb (natAbs d) largest-number beyond)))
     (cases-bool (leb (natAbs c) largest-number))
 
 made-clipped : {B : Type 0} (kind : Kind B) (c : ℤ) (s : Bool) → made kind c s ≡ made kind (signed-clipped c) s

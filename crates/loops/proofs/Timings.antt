@@ -179,9 +179,9 @@ module _ {B : Type 0} (kind : Kind B) where
   summed c s (more {b} {bs} {t} {u} d r small marked is rest) room takes =
       let near : natAbs (c +ℤ d) ≤ natAbs c + natAbs d = omega (arith, ints) in
       let one : kind .sum (kind .number c s) b ≡ kind .number (c +ℤ d) (s || r) =
-        ap (kind .sum (kind .number c s)) is
-        ∙ kind .numbers-sum c d s r (record { small = omega arith; takes = takes }) (record { small = omega arith; takes = marked })
-        ∙ cond-true (leb (natAbs (c +ℤ d)) largest-size) _ _ (le-leb (natAbs (c +ℤ d)) largest-size (omega arith)) in
+      ap (kind .sum (kind .number c s)) is
+      ∙ kind .numbers-sum c d s r (record { small = omega arith; takes = takes }) (record { small = omega arith; takes = marked })
+      ∙ cond-true (leb (natAbs (c +ℤ d)) largest-size) _ _ (le-leb (natAbs (c +ℤ d)) largest-size (omega arith)) in
       ap (λ x. total-after kind x bs) one
       ∙ summed (c +ℤ d) (s || r) rest (omega arith) (or-takes (kind .marks) s r takes marked)
       ∙ ap (λ z. kind .number z ((s || r) || u)) (+ℤ-assoc c d t)
@@ -216,7 +216,7 @@ module _ {B : Type 0} (kind : Kind B) where
   not-below : {bs : List B} {t : ℤ} {u : Bool} {w : ℕ} → Numbers kind bs t u w → length bs ≤ most-lines → kind .at-most (kind .zero) (total kind bs) ≡ true → leZ (place (pos 0) false) (place t u) ≡ true
   not-below {bs} {t} {u} n few h =
       let e : total kind bs ≡ kind .number t u =
-        ap (λ z. total-after kind z bs) (sym (kind .number-zero)) ∙ summed (pos 0) false n (omega arith) (λ f. absurd (false≢true f)) ∙ ap (λ z. kind .number z u) (+ℤ-idl t) in
+      ap (λ z. total-after kind z bs) (sym (kind .number-zero)) ∙ summed (pos 0) false n (omega arith) (λ f. absurd (false≢true f)) ∙ ap (λ z. kind .number z u) (+ℤ-idl t) in
       sym (kind .numbers-order (pos 0) t false u (record { small = omega arith; takes = λ f. absurd (false≢true f) }) (record { small = omega (arith, small-sum n); takes = marks-sum n }))
       ∙ ap (λ z. kind .at-most z (kind .number t u)) (kind .number-zero)
       ∙ ap (kind .at-most (kind .zero)) (sym e)

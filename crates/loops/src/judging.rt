@@ -36,23 +36,17 @@ pub fn judge<B: Bound>(text: &[u8]) -> Result<Verdict<B>, BadLine>
     let mut sum = B::zero();
     let mut count = 0;
     while !rest.is_empty() {
+        let line = count + 1;
         if count == MOST_LINES {
-            return Err(BadLine {
-                line: count + 1,
-                fault: LineFault::TooManyLines,
-            });
+            let fault = LineFault::TooManyLines;
+            return Err(BadLine { line, fault });
         }
-        let (line, after) = split_line(rest);
-        match read_bound(line) {
+        let (bytes, after) = split_line(rest);
+        match read_bound(bytes) {
             Ok(bound) => sum = sum.sum(bound),
-            Err(fault) => {
-                return Err(BadLine {
-                    line: count + 1,
-                    fault,
-                });
-            }
+            Err(fault) => return Err(BadLine { line, fault }),
         }
-        count += 1;
+        count = line;
         rest = after;
     }
     let possible = B::zero().at_most(sum);

@@ -4,13 +4,13 @@ ghost use Rattle.std.specs.declared.option.Option.the-variants.{Some};
 ghost use Rattle.loops.specs.Readings.{line-bound, number-bound};
 ghost use Rattle.loops.specs.declared.line.LineFault.the-variants.{Unmade};
 ghost use mathlib.Core.Path.{_≡_};
+use crate::text::integer;
 use bounds::Bound;
 use bounds::MakeError;
-use crate::text::integer;
-use std::fmt;
 use bounds::MakeErrorDebug;
 use bounds::MakeErrorDisplay;
 use bounds::MakeErrorPartialEq;
+use std::fmt;
 
 #[derive(Clone, Copy, PartialEq, Eq, Debug)]
 pub enum LineFault {
@@ -53,7 +53,10 @@ pub impl fmt::Display for LineFault as LineFaultDisplay {
 
     fn fmt<W: fmt::Write>(&self, f: &mut fmt::Formatter<W>) -> fmt::Result {
         match self {
-            LineFault::NotABound => write!(f, "not a bound (write a number as 3, a strict one as <3, or no limit)"),
+            LineFault::NotABound => write!(
+                f,
+                "not a bound (write a number as 3, a strict one as <3, or no limit)"
+            ),
             LineFault::Unmade(e) => write!(f, "{e}"),
             LineFault::TooManyLines => write!(f, "a loop has at most 4194304 lines"),
         }

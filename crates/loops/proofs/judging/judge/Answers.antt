@@ -40,7 +40,7 @@ loop-rest-again g c =
     let some : 0 < length rest = omega (arith, eqb-false (length rest) 0 (sym (c .loop-rest-test .ensures tt))) in
     let room : c .loop-rest .count < 4194304 = omega (arith, c .loop-rest .inv .few, c .if-count-eq-MOST-LINES .left) in
     let next =
-      progress-more kind (c .args .text .now) rest (c .loop-rest .sum) (c .loop-rest .count) some (c .loop-rest .inv) (c .in-Ok .bound) (c .sum-sum .result) room (c .in-Ok .ensures tt ∙ ap (line-bound kind) (c .split-line .ensures .line)) (c .sum-sum .ensures) in
+    progress-more kind (c .args .text .now) rest (c .loop-rest .sum) (c .loop-rest .count) some (c .loop-rest .inv) (c .in-Ok .bound) (c .sum-sum .result) room (c .in-Ok .ensures tt ∙ ap (line-bound kind) (c .split-line .ensures .line)) (c .sum-sum .ensures) in
     subst (λ r. Progress kind (c .args .text .now) r (c .sum-sum .result) (c .loop-rest .count + 1)) (sym (c .split-line .ensures .rest)) next
 
 pub returns : need.returns

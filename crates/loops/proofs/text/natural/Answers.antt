@@ -15,7 +15,7 @@ returns-then-b-lt48 c =
     let text = c .args .text .now in
     let i = c .loop-b .b-index in
     let out : (getD text i 0 < 48) ⊎ (57 < getD text i 0) =
-      elim (c .then-b-lt48 .came) [ then-b-lt48·by·then-b-lt48 w ↦ inl (omega (arith, w .if-b-lt48 .taken)) | then-b-lt48·by·else-b-lt48·then-b-gt57 w ↦ inr (omega (arith, w .if-b-gt57 .taken)) ] in
+    elim (c .then-b-lt48 .came) [ then-b-lt48·by·then-b-lt48 w ↦ inl (omega (arith, w .if-b-lt48 .taken)) | then-b-lt48·by·else-b-lt48·then-b-gt57 w ↦ inr (omega (arith, w .if-b-gt57 .taken)) ] in
     let some : 0 < length text = omega (arith, eqb-false (length text) 0 (sym (c .if-is-empty .ensures tt))) in
     record {
       value = read-broken text i (c .loop-b .number) (c .loop-b-test .taken) (c .loop-b .inv .1) (digit-no (getD text i 0) out) ∙ ap (mapped clipped) (sym (natural-some text some));

@@ -1,0 +1,3 @@
+// Examples and edges of every layer, worked out by hand from the rules.
+mod bound_edges;
+mod loop_cases;

@@ -22,7 +22,7 @@ use Rattle.loops.specs.declared.line.LineFault.{LineFault}
 use Rattle.loops.specs.declared.line.LineFault.the-variants.{TooManyLines}
 use Rattle.loops.specs.Lines.{lines, grown, first-line, after-line}
 use Rattle.loops.specs.Readings.{line-bound}
-use Rattle.loops.specs.Loops.{total-after, total, added, Allowed, Meets, Summed, Faulty, Judged, most-lines}
+use Rattle.loops.specs.Loops.{total-after, total, with-bound, added, Allowed, Meets, Summed, Faulty, Judged, most-lines}
 
 -- ---- lines
 step-line : (b : ℕ) (text : List ℕ) (t : Bool) → grown b (lines text) ≡ (b ∷ first-line text) ∷ lines (after-line text) → cond t ([] ∷ lines text) (grown b (lines text)) ≡ cond t [] (b ∷ first-line text) ∷ lines (cond t text (after-line text))
@@ -65,6 +65,15 @@ total-push : {B : Type 0} (kind : Kind B) (s : B) (bs : List B) (b : B) → tota
 total-push kind s [] b = refl
 total-push kind s (c ∷ bs) b = total-push kind (kind .sum s c) bs b
 
+-- what the sum with one more line says of the line
+added-bound : {B : Type 0} (kind : Kind B) (sum next : B) (r : Result B LineFault) → Ok next ≡ with-bound kind sum r → (b : B) × (r ≡ Ok b) × (next ≡ kind .sum sum b)
+added-bound kind sum next (Ok b) e = (b, refl, cc)
+added-bound kind sum next (Err f) e = let z : _≡_ {A = ℕ} 0 1 = cc in absurd (omega arith)
+
+added-fault : {B : Type 0} (kind : Kind B) (sum : B) (f : LineFault) (r : Result B LineFault) → Err f ≡ with-bound kind sum r → r ≡ Err f
+added-fault kind sum f (Ok b) e = let z : _≡_ {A = ℕ} 0 1 = cc in absurd (omega arith)
+added-fault kind sum f (Err g) e = sym e
+
 module _ {B : Type 0} (kind : Kind B) (text : List ℕ) where
   pub progress-none : (sum : B) → sum ≡ kind .zero → Progress kind text text sum 0
   progress-none sum e =
@@ -91,7 +100,10 @@ module _ {B : Type 0} (kind : Kind B) (text : List ℕ) where
           summed = e ∙ ap (λ s. kind .sum s b) (so-far .summed) ∙ sym (total-push kind (kind .zero) (so-far .bounds) b);
         }
 
-    pub faulty : (bad : BadLine) → bad .line ≡ count + 1 → ((count < most-lines) × (Err (bad .fault) ≡ line-bound kind (first-line rest))) ⊎ ((count ≡ most-lines) × (bad .fault ≡ TooManyLines)) → Faulty kind text bad
+    pub progress-added : (next : B) → count < most-lines → Ok next ≡ with-bound kind sum (line-bound kind (first-line rest)) → Progress kind text (after-line rest) next (count + 1)
+    progress-added next room e = let r = added-bound kind sum next (line-bound kind (first-line rest)) e in progress-more (r .0) next room (sym (r .1)) (r .2)
+
+    pub faulty : (bad : BadLine) → bad .line ≡ count + 1 → ((count < most-lines) × (Err (bad .fault) ≡ with-bound kind sum (line-bound kind (first-line rest)))) ⊎ ((count ≡ most-lines) × (bad .fault ≡ TooManyLines)) → Faulty kind text bad
     faulty bad number fault =
         record {
           before = so-far .before;
@@ -101,7 +113,7 @@ module _ {B : Type 0} (kind : Kind B) (text : List ℕ) where
           number = number ∙ ap (λ n. n + 1) (sym (so-far .many));
           bounds = so-far .bounds;
           said = so-far .said;
-          fault = ⊎-elim (λ p. inl (omega (arith, so-far .many, p .0), sym (p .1))) (λ p. inr (so-far .many ∙ p .0, p .1)) fault;
+          fault = ⊎-elim (λ p. inl (omega (arith, so-far .many, p .0), added-fault kind sum (bad .fault) (line-bound kind (first-line rest)) (p .1))) (λ p. inr (so-far .many ∙ p .0, p .1)) fault;
         }
 
 -- ---- no timing under a sum below zero

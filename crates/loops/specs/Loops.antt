@@ -35,6 +35,14 @@ abbrev pub added : List ℤ → ℤ
 added [] = pos 0
 added (d ∷ ds) = d +ℤ added ds
 
+-- one bound more, where there is one
+abbrev pub with-bound : {B : Type 0} → Kind B → B → Result B LineFault → Result B LineFault
+with-bound kind sum (Ok b) = Ok (kind .sum sum b)
+with-bound kind sum (Err fault) = Err fault
+
+abbrev pub verdict-of : {B : Type 0} → Kind B → B → Verdict B
+verdict-of kind sum = record { sum = sum; possible = kind .at-most (kind .zero) sum }
+
 -- each bound allows its difference on grid k, and there are as many of both
 abbrev pub Allowed : {B : Type 0} → Kind B → ℕ → List B → List ℤ → Type 0
 Allowed kind k [] [] = Unit {0}

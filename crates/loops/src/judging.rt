@@ -1,5 +1,8 @@
 // The verdict on a whole loop.
-ghost use Rattle.loops.specs.Loops.{Judged};
+ghost use Prim.Native.Nat.{_+_, _≤_};
+ghost use Rattle.loops.specs.Loops.{Judged, verdict-of, with-bound, most-lines};
+ghost use Rattle.loops.specs.Readings.{line-bound};
+ghost use mathlib.Core.Path.{_≡_};
 ghost use Rattle.loops.specs.VerdictTexts.{bad-line-text};
 ghost use Rattle.std.specs.declared.option.Option.the-variants.{Some};
 use crate::line::LineFault;
@@ -28,6 +31,36 @@ pub struct BadLine {
     pub fault: LineFault,
 }
 
+impl<B: Bound> Verdict<B> {
+    fn of(sum: B) -> Verdict<B>
+        ensures { λ r. ⌜ r ≡ verdict-of (B·Bound .kind) sum ⌝ }
+    {
+        let possible = B::zero().at_most(sum);
+        Verdict { sum, possible }
+    }
+}
+
+impl BadLine {
+    // The line after `count` good ones.
+    fn after(count: u32, fault: LineFault) -> BadLine
+        requires { ⌜ count ≤ most-lines ⌝ }
+        ensures { λ r. ⌜ r ≡ record { line = count + 1; fault = fault } ⌝ }
+    {
+        let line = count + 1;
+        BadLine { line, fault }
+    }
+}
+
+// The sum with the bound of one more line.
+fn add_line<B: Bound>(sum: B, line: &[u8]) -> Result<B, LineFault>
+    ensures { λ r. ⌜ r ≡ with-bound (B·Bound .kind) sum (line-bound (B·Bound .kind) (now (line .entry))) ⌝ }
+{
+    match read_bound::<B>(line) {
+        Ok(bound) => Ok(sum.sum(bound)),
+        Err(fault) => Err(fault),
+    }
+}
+
 // Adds up the bounds of a closed loop, one to a line.
 pub fn judge<B: Bound>(text: &[u8]) -> Result<Verdict<B>, BadLine>
     ensures { λ r. ⌜ Judged (B·Bound .kind) (now (text .entry)) r ⌝ }
@@ -36,21 +69,18 @@ pub fn judge<B: Bound>(text: &[u8]) -> Result<Verdict<B>, BadLine>
     let mut sum = B::zero();
     let mut count = 0;
     while !rest.is_empty() {
-        let line = count + 1;
         if count == MOST_LINES {
-            let fault = LineFault::TooManyLines;
-            return Err(BadLine { line, fault });
+            return Err(BadLine::after(count, LineFault::TooManyLines));
         }
-        let (bytes, after) = split_line(rest);
-        match read_bound(bytes) {
-            Ok(bound) => sum = sum.sum(bound),
-            Err(fault) => return Err(BadLine { line, fault }),
+        let (line, after) = split_line(rest);
+        match add_line(sum, line) {
+            Ok(total) => sum = total,
+            Err(fault) => return Err(BadLine::after(count, fault)),
         }
-        count = line;
+        count += 1;
         rest = after;
     }
-    let possible = B::zero().at_most(sum);
-    Ok(Verdict { sum, possible })
+    Ok(Verdict::of(sum))
 }
 
 pub impl<B: fmt::Display> fmt::Display for Verdict<B> as VerdictDisplay {

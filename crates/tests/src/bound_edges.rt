@@ -65,12 +65,25 @@ fn check_sums<B: Bound>() -> Result<(), Fail> {
     check(B::no_limit().allows(i64::MAX))
 }
 
+// Strict bounds, where a kind has them: 3 strict stands just below 3, and 3 strict with -3 below zero.
+fn check_marks<B: Bound>() -> Result<(), Fail> {
+    check(takes::<B>(262_143, true).is_none())?;
+    let strict = B::make(3, true)?;
+    check(below(strict, B::make(3, false)?))?;
+    check(below(B::make(2, false)?, strict))?;
+    check(strict.allows(2) && !strict.allows(3))?;
+    let sum = strict.sum(B::make(-3, false)?);
+    check(below(sum, B::zero()))?;
+    check(!sum.allows(0) && sum.allows(-1))
+}
+
 #[cfg(test)]
 mod tests {
     use super::*;
     use bounds::MarkedBoundKind;
     use bounds::PlainBoundKind;
     use bounds::Range;
+    use compact::CompactBoundKind;
 
     #[test]
     fn plain_edges() -> Result<(), Fail> {
@@ -86,22 +99,14 @@ mod tests {
     fn marked_edges() -> Result<(), Fail> {
         check_edges::<MarkedBoundKind>()?;
         check_sums::<MarkedBoundKind>()?;
-        check(takes::<MarkedBoundKind>(262_143, true).is_none())
+        check_marks::<MarkedBoundKind>()
     }
 
     #[test]
-    fn strict_stands_just_below_its_number() -> Result<(), Fail> {
-        let strict = MarkedBoundKind::make(3, true)?;
-        check(below(strict, MarkedBoundKind::make(3, false)?))?;
-        check(below(MarkedBoundKind::make(2, false)?, strict))?;
-        check(strict.allows(2) && !strict.allows(3))
-    }
-
-    #[test]
-    fn three_strict_with_minus_three_is_below_zero() -> Result<(), Fail> {
-        let sum = MarkedBoundKind::make(3, true)?.sum(MarkedBoundKind::make(-3, false)?);
-        check(below(sum, MarkedBoundKind::zero()))?;
-        check(!sum.allows(0) && sum.allows(-1))
+    fn compact_edges() -> Result<(), Fail> {
+        check_edges::<CompactBoundKind>()?;
+        check_sums::<CompactBoundKind>()?;
+        check_marks::<CompactBoundKind>()
     }
 
     #[test]

@@ -1,0 +1,3 @@
+pub mod Nets
+pub mod Markings
+pub mod Runs

@@ -26,7 +26,7 @@ pub struct Slot {
 }
 
 impl End {
-    pub fn is_set(self) -> bool
+    pub(crate) fn is_set(self) -> bool
         ensures { λ r. ⌜ r ≡ is-set self ⌝ }
     {
         self.strict || self.number != 0
@@ -81,7 +81,7 @@ impl Slot {
         Some((slot, rest))
     }
 
-    pub fn is_blank(self) -> bool
+    pub(crate) fn is_blank(self) -> bool
         ensures { λ r. ⌜ r ≡ is-blank self ⌝ }
     {
         self.place == 0
@@ -92,7 +92,7 @@ impl Slot {
     }
 
     // Whether the bounds of the range sum below zero.
-    pub fn is_empty(self) -> bool
+    pub(crate) fn is_empty(self) -> bool
         ensures { λ r. ⌜ r ≡ is-empty self ⌝ }
     {
         if self.unlimited {
@@ -106,7 +106,7 @@ impl Slot {
     }
 
     // Whether the refusal holds of this slot where it is used.
-    pub fn used_has(self, refusal: NetRefusal, header: NetHeader) -> bool
+    pub(crate) fn used_has(self, refusal: NetRefusal, header: NetHeader) -> bool
         ensures { λ r. ⌜ r ≡ used-has refusal header self ⌝ }
     {
         match refusal {
@@ -121,7 +121,7 @@ impl Slot {
     }
 
     // And where it is not.
-    pub fn unused_has(self, refusal: NetRefusal) -> bool
+    pub(crate) fn unused_has(self, refusal: NetRefusal) -> bool
         ensures { λ r. ⌜ r ≡ unused-has refusal self ⌝ }
     {
         match refusal {

@@ -99,7 +99,7 @@ impl TransitionRecord {
     }
 
     // What is wrong with the record, lowest number first.
-    pub fn refusal(&self, header: NetHeader) -> Option<NetRefusal>
+    pub(crate) fn refusal(&self, header: NetHeader) -> Option<NetRefusal>
         ensures { λ r. ⌜ r ≡ first-of (record-has header (now (self .entry))) in-order ⌝ }
     {
         if self.has(NetRefusal::NotZero, header) {

@@ -1,6 +1,7 @@
 // Faults of net records: what is wrong, and in which record.
-ghost use Rattle.records.specs.Refusals.{refusal-number};
+ghost use Rattle.records.specs.Refusals.{refusal-number, refusal-text, fault-text};
 ghost use Rattle.records.specs.declared.fault.NetRefusal.the-variants.{BytesMissing};
+ghost use Rattle.std.specs.declared.option.Option.the-variants.{Some};
 ghost use mathlib.Core.Path.{_≡_};
 use std::fmt;
 
@@ -27,6 +28,8 @@ impl NetRefusal {
 }
 
 pub impl fmt::Display for NetRefusal as NetRefusalDisplay {
+    ghost shown = { λ r. Some (refusal-text r) };
+
     fn fmt<W: fmt::Write>(&self, f: &mut fmt::Formatter<W>) -> fmt::Result {
         match self {
             NetRefusal::BytesMissing => write!(f, "bytes are missing"),
@@ -47,6 +50,8 @@ pub struct NetFault {
 }
 
 pub impl fmt::Display for NetFault as NetFaultDisplay {
+    ghost shown = { λ fault. Some (fault-text fault) };
+
     fn fmt<W: fmt::Write>(&self, f: &mut fmt::Formatter<W>) -> fmt::Result {
         let number = self.refusal.number();
         let at = self.at;

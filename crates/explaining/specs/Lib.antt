@@ -1,4 +1,5 @@
--- How the parts of a net are written for people.
+-- How a net is written for people, part by part and whole.
 pub mod Ages
 pub mod Arcs
+pub mod Explained
 pub mod Summaries

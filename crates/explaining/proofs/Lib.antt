@@ -1,0 +1,2 @@
+-- The lemmas that more than one proof of this crate cites.
+pub mod Texts

@@ -1,18 +1,19 @@
 -- Texts that grow by one piece after the other, and the whole of them. Assumes nothing.
 use Prim.Native.Nat.{ℕ, zero, suc, _-_, _≤_}
 use lib.Chars.{codes}
+use lib.ListN.{take}
 use mathlib.Core.Bool.{Bool, true, cond, not}
 use mathlib.Core.List.{List, [], _∷_, _++_, append-assoc}
-
-use mathlib.Core.Path.{_≡_, refl, sym, ap, _∙_}
+use mathlib.Core.Path.{_≡_, sym, ap, subst, _∙_}
 use native.Mathlib.Omega.{arith}
 use Rattle.std.specs.Options.{isSome}
-use Rattle.std.specs.declared.option.Option.{Option}
 use Rattle.std.specs.declared.option.Option.the-variants.{Some, None}
-use Rattle.explaining.specs.Explained.{each, net-text, text-by, explained-text}
-use Rattle.records.specs.NetRecords.{net-fault, sound, no-net}
+use Rattle.explaining.specs.Explained.{each, line, transition-lines, net-text, text-by, explained-text}
+use Rattle.explaining.specs.Summaries.{summary-text}
+use Rattle.records.specs.NetRecords.{header-of, net-fault, sound, no-net}
 use Rattle.records.specs.Refusals.{fault-text}
 use Rattle.records.specs.declared.fault.NetFault.{NetFault}
+use Rattle.records.specs.declared.header.NetHeader.{NetHeader}
 
 pub each-more : (text : ℕ → List ℕ) (n : ℕ) → 1 ≤ n → each text n ≡ each text (n - 1) ++ text n
 each-more text zero h = absurd (omega arith)
@@ -33,6 +34,13 @@ grown-more text n k s t u h e p q =
 
 pub two-more : (s t u a b : List ℕ) → t ≡ s ++ a → u ≡ t ++ b → u ≡ s ++ (a ++ b)
 two-more s t u a b p q = q ∙ (ap (λ (x : List ℕ). x ++ b) p ∙ append-assoc s a b)
+
+-- the summary, and then the transitions
+pub net-grown : (h : NetHeader) (bytes s named t : List ℕ) → h ≡ header-of (take 4 bytes) → named ≡ s ++ line (summary-text h) → Grown (transition-lines bytes) (h .transitions) named t → t ≡ s ++ net-text bytes
+net-grown h bytes s named t e p q =
+    let lines = transition-lines bytes in
+    subst (λ (h : NetHeader). t ≡ s ++ (line (summary-text h) ++ each lines (h .transitions))) e
+    (two-more s named t (line (summary-text h)) (each lines (h .transitions)) p q)
 
 pub sound-none : (bytes : List ℕ) → net-fault bytes ≡ None → sound bytes ≡ true
 unfolding sound

@@ -9,8 +9,7 @@ use Rattle.explaining.proofs.net.write_side.Needs as need
 pub loop-arc-again : need.loop-arc-again
 loop-arc-again c =
     let lines = arc-line (c .args .net .now .bytes .now) (c .args .transition) (c .args .side) in
-    let arc = c .loop-arc .arc in
-    (
+    let arc = c .loop-arc .arc in (
       grown-more lines arc ((arc + 1) - 1) (string-bytes (c .args .text .now)) (string-bytes (c .loop-arc .text)) (string-bytes (c .write-arc .last .text)) (omega arith) (omega arith) (c .loop-arc .inv .0) (c .in-Continue-write-arc .ensures tt),
       omega arith,
     )

@@ -1,4 +1,6 @@
 // Pages of the zone book, and whether a page's zone vouches for a zone in a draft.
+#![tactic(auto)]
+
 pub mod book;
 pub mod grids;
 pub mod objections;

@@ -1,4 +1,6 @@
 // Bounds on differences of ages: the interface of a kind with its laws, and two kinds that keep them.
+#![tactic(auto)]
+
 pub mod bound;
 mod capped;
 pub mod made;

@@ -1,4 +1,6 @@
 // Compact bounds: a whole number, perhaps strict, or no limit, in one 64-bit integer.
+#![tactic(auto)]
+
 ghost use Rattle.bounds.specs.Limits.{capped};
 ghost use Rattle.bounds.specs.Texts.{limit_text};
 ghost use Rattle.compact.specs.CompactKind.{compact_kind, compact_limit, compact_of, limit_of};

@@ -1,4 +1,6 @@
 // The docket part of a file in words for a person: its header, the initial tokens, the target and the listed zones.
+#![tactic(auto)]
+
 pub mod bound;
 pub mod docket;
 pub mod head;

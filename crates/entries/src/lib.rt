@@ -1,4 +1,6 @@
 // The records after the net, in borrowed bytes: what they say, and what is wrong with them.
+#![tactic(auto)]
+
 mod bits;
 pub mod docket;
 pub mod entry;

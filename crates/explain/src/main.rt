@@ -1,4 +1,6 @@
 // Reads the net part of a file from standard input, and prints it in words or why it is refused.
+#![tactic(auto)]
+
 use explaining::explain;
 use std::io::Read;
 

@@ -1,4 +1,6 @@
 // Reads a file from standard input, and prints its net and its docket part in words or why they are refused.
+#![tactic(auto)]
+
 use docket_words::explain_file;
 use std::io::Read;
 

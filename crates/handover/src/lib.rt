@@ -1,4 +1,6 @@
 // A net store of one's own, the whole of it: a line with two stops and one handover between them.
+#![tactic(auto)]
+
 ghost use Rattle.std.specs.Prelude.{◌≡◌, ◌<◌, ◌≤◌, ◌⊎◌, Some, None};
 
 pub mod store;

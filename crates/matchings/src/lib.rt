@@ -1,4 +1,6 @@
 // Matchings as numbers of 16 bits: which are matchings, and the next one in ascending order.
+#![tactic(auto)]
+
 mod fitting;
 mod matching;
 mod next;

@@ -1,4 +1,6 @@
 // Timed Petri nets: the model with its runs, and the interface of a net store.
+#![tactic(auto)]
+
 pub mod runs;
 pub mod side;
 pub mod store;

@@ -1,4 +1,6 @@
 // Records in borrowed bytes: a reader, bit fields, faults, and the packed net store.
+#![tactic(auto)]
+
 pub mod fault;
 pub mod header;
 pub mod net;

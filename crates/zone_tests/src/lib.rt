@@ -1,4 +1,6 @@
 // Zones of every layer, worked out by hand from the rules: records, normal forms, predecessors, vouching.
+#![tactic(auto)]
+
 #[cfg(test)]
 mod book_cases;
 #[cfg(test)]

@@ -1,9 +1,9 @@
 -- A type whose values stand for limits is a kind of bounds: the laws are shown once, for every such type.
 -- Assumes nothing.
-use Rattle.std.specs.Prelude.{◌≡◌, ℕ, ◌+◌, ◌≤◌, Bool, true, false, cond, ◌||◌, T, ◌⊎◌, ℤ, pos, ◌+ℤ◌, ◌*ℤ◌, int_le, nat_le, unsigned_abs, refl}
+use Rattle.std.specs.Prelude.{◌≡◌, ◌+◌, ◌≤◌, Bool, true, false, cond, ◌||◌, T, ℤ, pos, ◌+ℤ◌, int_le, nat_le, unsigned_abs, refl}
 use Rattle.std.proofs.Common.{arith, leb→le, sym, ap, subst, ◌∙◌}
 use Rattle.std.proofs.lemmas.Bool.{false≢true}
-use Rattle.bounds.specs.Kinds.{Kind, Named, largest_size, number_allows, place}
+use Rattle.bounds.specs.Kinds.{Kind, Named, largest_size, place}
 use Rattle.bounds.specs.Limits.{Limit, limit_sum, limit_at_most, limit_size, limit_allows, limit_strict, capped, limit_total, limit_transitive, limit_antisymmetric, limit_top, limit_associative, limit_commutative, limit_neutral, limit_monotone, limit_larger_allows, limit_sum_allows, limit_zero_allows, limit_below_zero, limit_grids, limit_sum_size, limit_sum_capped}
 use Rattle.bounds.specs.Limits.Limit.{number, unlimited}
 

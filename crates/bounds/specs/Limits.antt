@@ -1,12 +1,12 @@
 -- The model behind the kinds: a number, perhaps strict, or no limit. It keeps every law of a kind.
 -- Assumes nothing.
-use Rattle.std.specs.Prelude.{◌≡◌, ℕ, ◌+◌, ◌*◌, ◌^◌, ◌<◌, ◌≤◌, Bool, true, false, cond, ◌||◌, T, ◌⊎◌, ℤ, pos, ◌+ℤ◌, ◌*ℤ◌, int_le, int_lt, nat_le, unsigned_abs, refl}
+use Rattle.std.specs.Prelude.{◌≡◌, ℕ, ◌+◌, ◌*◌, ◌<◌, ◌≤◌, Bool, true, false, cond, ◌||◌, T, ◌⊎◌, ℤ, pos, ◌+ℤ◌, ◌*ℤ◌, int_le, int_lt, nat_le, unsigned_abs, refl}
 use Rattle.std.proofs.Common.{mul-le-mul_left, mul-add, arith, leb→le, inl, inr, ⊎_elim, sym, ap, subst, ◌∙◌}
 use Rattle.std.proofs.Math.Nat.{mul-lt-mul_of_pos_left}
 use borrow.Author.Differences.{ints, up, down}
 use Rattle.std.proofs.Math.IntN.{+ℤ_assoc, +ℤ_comm, +ℤ_idl, *ℤ-zero}
 use Rattle.std.proofs.lemmas.Bool.{true≢false, false≢true, le-leb}
-use Rattle.bounds.specs.Kinds.{largest_size, number_allows, place, Named}
+use Rattle.bounds.specs.Kinds.{largest_size, number_allows, place}
 
 pub data Limit : Type 0 where
   number : ℤ → Bool → Limit

@@ -1,8 +1,8 @@
 -- What marked bounds mean: a number, perhaps strict, or no limit.
 -- Assumes nothing.
-use Rattle.std.specs.Prelude.{◌≡◌, Bool, true, Some, None, Option, refl}
+use Rattle.std.specs.Prelude.{◌≡◌, true, Some, None, Option, refl}
 use Rattle.bounds.specs.Kinds.{Kind}
-use Rattle.bounds.specs.Limits.{Limit, limit_strict}
+use Rattle.bounds.specs.Limits.{Limit}
 use Rattle.bounds.specs.Limits.Limit.{number, unlimited}
 use Rattle.bounds.specs.Codings.{Coding, Held, kind_of}
 use Rattle.bounds.specs.declared.marked.Marked.{Marked}

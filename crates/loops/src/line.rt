@@ -35,7 +35,7 @@ fn number_bound<B: Bound>(text: &[u8], strict: bool) -> Result<B, LineFault>
 pub fn read_bound<B: Bound>(line: &[u8]) -> Result<B, LineFault>
     ensures { result ≡ line_bound B.Bound.kind line.now }
 {
-    if line == b"no limit" {
+    if line == b"no limit".as_slice() {
         return Ok(B::no_limit());
     }
     match line.strip_prefix(b"<") {

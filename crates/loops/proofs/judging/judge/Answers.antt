@@ -21,26 +21,26 @@ returns-in-Err g c =
     let kind = g.B.Bound.kind in
     let rest = c.loop-rest.rest.now in
     let some : 0 < length rest = omega (arith, eqb-false (length rest) 0 (sym c.loop-rest-test.ensures)) in
-    let room : c.loop-rest.count < 4194304 = omega (arith, c.loop-rest.invariant.few, c.if-count-eq-MOST-LINES.false) in
+    let room : c.loop-rest.count < 4194304 = omega (arith, c.loop-rest.invariant.few, c.if-count-eq-MOST_LINES.false) in
     let bad = c.after-in-Err.result in
-    let fault = ap Err (ap (λ b. b.fault) c.after-in-Err.ensures) ∙ c.in-Err.ensures ∙ ap (λ l. with_bound kind c.loop-rest.sum (line_bound kind l)) c.split-line.ensures.line in
+    let fault = ap Err (ap (λ b. b.fault) c.after-in-Err.ensures) ∙ c.in-Err.ensures ∙ ap (λ l. with_bound kind c.loop-rest.sum (line_bound kind l)) c.split_line.ensures.line in
     faulty kind c.args.text.now rest c.loop-rest.sum c.loop-rest.count some c.loop-rest.invariant bad (ap (λ b. b.line) c.after-in-Err.ensures) (inl (room, fault))
 
 pub loop-rest-smaller : goal.loop-rest-smaller
 loop-rest-smaller g c =
     let rest = c.loop-rest.rest.now in
     let some : 0 < length rest = omega (arith, eqb-false (length rest) 0 (sym c.loop-rest-test.ensures)) in
-    omega (arith, after_shorter rest some, ap length c.split-line.ensures.rest)
+    omega (arith, after_shorter rest some, ap length c.split_line.ensures.rest)
 
 pub loop-rest-preserved : goal.loop-rest-preserved
 loop-rest-preserved g c =
     let kind = g.B.Bound.kind in
     let rest = c.loop-rest.rest.now in
     let some : 0 < length rest = omega (arith, eqb-false (length rest) 0 (sym c.loop-rest-test.ensures)) in
-    let room : c.loop-rest.count < 4194304 = omega (arith, c.loop-rest.invariant.few, c.if-count-eq-MOST-LINES.false) in
-    let read = c.in-Ok.ensures ∙ ap (λ l. with_bound kind c.loop-rest.sum (line_bound kind l)) c.split-line.ensures.line in
+    let room : c.loop-rest.count < 4194304 = omega (arith, c.loop-rest.invariant.few, c.if-count-eq-MOST_LINES.false) in
+    let read = c.in-Ok.ensures ∙ ap (λ l. with_bound kind c.loop-rest.sum (line_bound kind l)) c.split_line.ensures.line in
     let next = progress_added kind c.args.text.now rest c.loop-rest.sum c.loop-rest.count some c.loop-rest.invariant c.in-Ok.total room read in
-    subst (λ r. Progress kind c.args.text.now r c.in-Ok.total (c.loop-rest.count + 1)) (sym c.split-line.ensures.rest) next
+    subst (λ r. Progress kind c.args.text.now r c.in-Ok.total (c.loop-rest.count + 1)) (sym c.split_line.ensures.rest) next
 
 pub returns : goal.returns
 returns g c =

@@ -18,5 +18,5 @@ pub returns : goal.returns
 returns g c =
     let kind = g.B.Bound.kind in
     let fits : SFits w32 c.in-Some.number = search rules in
-    let h : Ok c.in-ok-make.field-0 ≡ made kind c.in-Some.number c.args.strict = simp to_z-of_z at c.in-ok-make.ensures in
+    let h : Ok c.in_ok-make.field-0 ≡ made kind c.in-Some.number c.args.strict = simp to_z-of_z at c.in_ok-make.ensures in
     ap unmade h ∙ number_bound_by kind c.args.text.now c.args.strict c.in-Some.number c.in-Some.ensures

@@ -5,7 +5,7 @@ use Rattle.records.proofs.net.check_net.Goals as goal
 
 pub loop-init : goal.loop-init
 loop-init c =
-    walked_none c.in-ok-header.header c.args.bytes.now c.new-reader.result.rest.now c.read-header.new.reader.rest.now c.read-header.new.reader.next c.new-reader.ensures.rest (c.in-ok-header.ensures.rest refl) (c.in-ok-header.ensures.next refl)
+    walked_none c.in_ok-header.header c.args.bytes.now c.new-reader.result.rest.now c.read_header.new.reader.rest.now c.read_header.new.reader.next c.new-reader.ensures.rest (c.in_ok-header.ensures.rest refl) (c.in_ok-header.ensures.next refl)
 
 pub returns-in-err-read-transition : goal.returns-in-err-read-transition
 returns-in-err-read-transition c =
@@ -20,15 +20,15 @@ returns-in-err-read-transition c =
 pub loop-preserved : goal.loop-preserved
 loop-preserved c =
     let bytes = c.args.bytes.now in
-    let h = c.in-ok-header.header in
-    let none = (tested_ok tt tt _ c.in-ok-read-transition.ensures.answer).0 in
+    let h = c.in_ok-header.header in
+    let none = (tested_ok tt tt _ c.in_ok-read_transition.ensures.answer).0 in
     let next = walked_more h c.loop.counter c.loop.reader.next c.loop.reader.rest.now bytes c.loop-test.true c.loop.invariant none in
-    let at = subst (λ n. Walked h (c.loop.counter + 1) n (drop 41 c.loop.reader.rest.now) bytes) (sym (c.in-ok-read-transition.ensures.next refl)) next in
-    subst (λ r. Walked h (c.loop.counter + 1) c.read-transition.new.reader.next r bytes) (sym (c.in-ok-read-transition.ensures.rest refl)) at
+    let at = subst (λ n. Walked h (c.loop.counter + 1) n (drop 41 c.loop.reader.rest.now) bytes) (sym (c.in_ok-read_transition.ensures.next refl)) next in
+    subst (λ r. Walked h (c.loop.counter + 1) c.read_transition.new.reader.next r bytes) (sym (c.in_ok-read_transition.ensures.rest refl)) at
 
 pub returns : goal.returns
 returns c =
     let bytes = c.args.bytes.now in
-    let h = c.in-ok-header.header in
-    let clean = header_clean bytes c.new-reader.result.rest.now h c.new-reader.ensures.rest c.in-ok-header.ensures.answer in
+    let h = c.in_ok-header.header in
+    let clean = header_clean bytes c.new-reader.result.rest.now h c.new-reader.ensures.rest c.in_ok-header.ensures.answer in
     tested_none _ h _ (walked_all h c.loop.counter c.loop.reader.next c.loop.reader.rest.now bytes c.loop-test.false c.loop.invariant clean.0 clean.1) clean.1

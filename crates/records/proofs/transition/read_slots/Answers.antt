@@ -6,7 +6,7 @@ use Rattle.records.proofs.transition.read_slots.Goals as goal
 
 pub unreachable-requires : goal.unreachable-requires
 unreachable-requires c =
-    omega (arith, c.in-default.ensures, ap length c.loop-i.invariant.1, length-drop (5 * c.loop-i.i) c.args.bytes.now, c.loop-i-test.true, c.requires)
+    omega (arith, c.in_default.ensures, ap length c.loop-i.invariant.1, length-drop (5 * c.loop-i.i) c.args.bytes.now, c.loop-i-test.true, c.requires)
 
 pub loop-i-preserved : goal.loop-i-preserved
 loop-i-preserved c =

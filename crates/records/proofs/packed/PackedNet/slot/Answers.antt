@@ -18,4 +18,4 @@ slot-at-requires c =
 pub returns : goal.returns
 returns c =
     let found = c.in-Some.ensures in
-    answers_slot c.args.self.now.bytes.now c.in-Some.bytes.now c.args.transition c.args.side c.args.arc found.0 found.1 c.slot-at.result c.first-slot.result c.from.result c.if-not-has-arc.ensures c.first-slot.ensures.start c.from.ensures c.slot-at.ensures
+    answers_slot c.args.self.now.bytes.now c.in-Some.bytes.now c.args.transition c.args.side c.args.arc found.0 found.1 c.slot_at.result c.first_slot.result c.from.result c.if-not-has_arc.ensures c.first_slot.ensures.start c.from.ensures c.slot_at.ensures

@@ -14,6 +14,6 @@ pub returns : goal.returns
 returns c =
     let bytes = c.args.self.now.bytes.now in
     let start = 4 + 41 * (c.from.result - 1) in (
-      sym c.if-not-has-transition.ensures,
+      sym c.if-not-has_transition.ensures,
       ap (λ n. take n (drop start bytes)) (span start) ∙ ap (λ n. take 41 (drop (4 + 41 * (n - 1)) bytes)) c.from.ensures,
     )

@@ -8,7 +8,7 @@ returns-then-slot-has c =
 
 pub loop-i-preserved : goal.loop-i-preserved
 loop-i-preserved c =
-    slot_passed c.args.refusal c.args.header c.args.self.now c.args.slots.now c.loop-i.i _ c.loop-i-test.true c.if-slot-has.ensures ∙ c.loop-i.invariant
+    slot_passed c.args.refusal c.args.header c.args.self.now c.args.slots.now c.loop-i.i _ c.loop-i-test.true c.if-slot_has.ensures ∙ c.loop-i.invariant
 
 pub returns : goal.returns
 returns c =

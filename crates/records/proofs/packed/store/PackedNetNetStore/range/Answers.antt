@@ -12,4 +12,4 @@ pub returns-in-None : goal.returns-in-None
 returns-in-None g c =
     let kind = g.B.Bound.kind in
     let arc = answered_arc kind c.args.self.now.bytes.now c.args.self.now.tested c.args.transition c.args.side c.args.arc in
-    c.from-zero.ensures ∙ ap (λ o. (arc_from kind o).range) c.in-None.ensures ∙ sym (ap (λ a. a.range) arc)
+    c.from_zero.ensures ∙ ap (λ o. (arc_from kind o).range) c.in-None.ensures ∙ sym (ap (λ a. a.range) arc)

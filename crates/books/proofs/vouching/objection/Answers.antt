@@ -4,6 +4,6 @@ use Rattle.books.proofs.vouching.objection.Goals as goal
 pub returns : goal.returns
 returns g c =
     record {
-      is = c.first-objection.ensures;
-      means = means g.B.Bound.kind c.args.page.now.places.now c.args.page.now.cells.now c.args.item_places.now c.args.item_cells.now c.args.pairing.now c.first-objection.result c.first-objection.ensures;
+      is = c.first_objection.ensures;
+      means = means g.B.Bound.kind c.args.page.now.places.now c.args.page.now.cells.now c.args.item_places.now c.args.item_cells.now c.args.pairing.now c.first_objection.result c.first_objection.ensures;
     }

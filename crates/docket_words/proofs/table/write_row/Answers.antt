@@ -11,7 +11,7 @@ loop-column-init g c =
 
 pub loop-column-preserved : goal.loop-column-preserved
 loop-column-preserved g c =
-    grown_more (cell_text g.B.BoundWords.words (in_draft g.B.Bound.kind c.args.cells.now) c.args.row) c.loop-column.column (string_bytes c.write.new.self) (string_bytes c.loop-column.text) (string_bytes c.write-cell.new.text) c.loop-column.invariant c.in-ok-write-cell.ensures
+    grown_more (cell_text g.B.BoundWords.words (in_draft g.B.Bound.kind c.args.cells.now) c.args.row) c.loop-column.column (string_bytes c.write.new.self) (string_bytes c.loop-column.text) (string_bytes c.write_cell.new.text) c.loop-column.invariant c.in_ok-write_cell.ensures
 
 pub returns : goal.returns
 returns g c =
@@ -20,5 +20,5 @@ returns g c =
     let filled = string_bytes c.loop-column.text in
     let all = string_bytes c.writeln.new.self in
     IfOk-weaker c.writeln.result _ _
-    (λ _ h. two_more (string_bytes c.args.text.now) named all (codes "  " ++ (point_text c.args.row ++ codes " less:")) (below cells c.args.points ++ (10 ∷ [])) c.in-ok-write.ensures.bytes (two_more named filled all (below cells c.args.points) (10 ∷ []) (grown_all cells c.loop-column.column c.args.points named filled (omega arith) c.loop-column.invariant) h))
+    (λ _ h. two_more (string_bytes c.args.text.now) named all (codes "  " ++ (point_text c.args.row ++ codes " less:")) (below cells c.args.points ++ (10 ∷ [])) c.in_ok-write.ensures.bytes (two_more named filled all (below cells c.args.points) (10 ∷ []) (grown_all cells c.loop-column.column c.args.points named filled (omega arith) c.loop-column.invariant) h))
     c.writeln.ensures.bytes

@@ -10,7 +10,7 @@ loop-row-init g c =
 
 pub loop-row-preserved : goal.loop-row-preserved
 loop-row-preserved g c =
-    grown_more (row_text g.B.BoundWords.words (in_draft g.B.Bound.kind c.args.cells.now) c.args.points) c.loop-row.row (string_bytes c.args.text.now) (string_bytes c.loop-row.text) (string_bytes c.write-row.new.text) c.loop-row.invariant c.in-ok-write-row.ensures
+    grown_more (row_text g.B.BoundWords.words (in_draft g.B.Bound.kind c.args.cells.now) c.args.points) c.loop-row.row (string_bytes c.args.text.now) (string_bytes c.loop-row.text) (string_bytes c.write_row.new.text) c.loop-row.invariant c.in_ok-write_row.ensures
 
 pub returns : goal.returns
 returns g c =

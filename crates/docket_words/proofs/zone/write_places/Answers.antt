@@ -10,8 +10,8 @@ pub loop-t-preserved : goal.loop-t-preserved
 loop-t-preserved c =
     let before = string_bytes c.loop-t.text in
     let place = get_or c.args.tokens.places in
-    grown_more (λ t. place_line (t + 1) (get_or c.args.tokens.places t 0)) c.loop-t.t (string_bytes c.args.text.now) before (string_bytes c.write-place.new.text) c.loop-t.invariant
-    (c.in-ok-write-place.ensures ∙ ap (λ i. before ++ place_line (c.loop-t.t + 1) (place i 0)) c.from.ensures)
+    grown_more (λ t. place_line (t + 1) (get_or c.args.tokens.places t 0)) c.loop-t.t (string_bytes c.args.text.now) before (string_bytes c.write_place.new.text) c.loop-t.invariant
+    (c.in_ok-write_place.ensures ∙ ap (λ i. before ++ place_line (c.loop-t.t + 1) (place i 0)) c.from.ensures)
 
 pub returns : goal.returns
 returns c =

@@ -11,8 +11,8 @@ returns g c =
     let tokens = c.args.tokens in
     let table = table_text g.B.BoundWords.words (in_draft g.B.Bound.kind c.args.cells.now) (tokens.count + 1) in
     let titled = string_bytes c.writeln.new.self in
-    let placed = string_bytes c.write-places.new.text in
-    let all = string_bytes c.write-table.new.text in
-    IfOk-weaker c.write-table.result _ _
-    (λ _ h. two_more (string_bytes c.args.text.now) titled all (title_line c.args.number tokens.count) (places_text tokens ++ table) c.in-ok-writeln.ensures.bytes (two_more titled placed all (places_text tokens) table c.in-ok-write-places.ensures h))
-    c.write-table.ensures
+    let placed = string_bytes c.write_places.new.text in
+    let all = string_bytes c.write_table.new.text in
+    IfOk-weaker c.write_table.result _ _
+    (λ _ h. two_more (string_bytes c.args.text.now) titled all (title_line c.args.number tokens.count) (places_text tokens ++ table) c.in_ok-writeln.ensures.bytes (two_more titled placed all (places_text tokens) table c.in_ok-write_places.ensures h))
+    c.write_table.ensures

@@ -6,11 +6,11 @@ pub loop-t-init : goal.loop-t-init
 loop-t-init c = some_none _
 
 pub loop-t-preserved : goal.loop-t-preserved
-loop-t-preserved c = some_passed _ _ c.loop-t.invariant c.if-place-missing.ensures
+loop-t-preserved c = some_passed _ _ c.loop-t.invariant c.if-place_missing.ensures
 
-pub returns-then-place-missing : goal.returns-then-place-missing
-returns-then-place-missing c =
-    some_found 8 c.loop-t.t _ (omega (arith, c.loop-t-test.true)) c.if-place-missing.ensures
+pub returns-then-place_missing : goal.returns-then-place_missing
+returns-then-place_missing c =
+    some_found 8 c.loop-t.t _ (omega (arith, c.loop-t-test.true)) c.if-place_missing.ensures
 
 pub returns : goal.returns
 returns c = some_all 8 _ _ c.loop-t.invariant (omega (arith, c.loop-t-test.false, c.loop-t.auto.t-end))

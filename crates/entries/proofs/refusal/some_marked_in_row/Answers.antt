@@ -6,11 +6,11 @@ pub loop-i-init : goal.loop-i-init
 loop-i-init c = some_none _
 
 pub loop-i-preserved : goal.loop-i-preserved
-loop-i-preserved c = some_passed _ _ c.loop-i.invariant c.if-marked-bound.ensures
+loop-i-preserved c = some_passed _ _ c.loop-i.invariant c.if-marked_bound.ensures
 
-pub returns-then-marked-bound : goal.returns-then-marked-bound
-returns-then-marked-bound c =
-    some_found 9 c.loop-i.i _ (omega (arith, c.loop-i-test.true)) c.if-marked-bound.ensures
+pub returns-then-marked_bound : goal.returns-then-marked_bound
+returns-then-marked_bound c =
+    some_found 9 c.loop-i.i _ (omega (arith, c.loop-i-test.true)) c.if-marked_bound.ensures
 
 pub returns : goal.returns
 returns c = some_all 9 _ _ c.loop-i.invariant (omega (arith, c.loop-i-test.false, c.loop-i.auto.i-end))

@@ -6,11 +6,11 @@ pub loop-i-init : goal.loop-i-init
 loop-i-init c = some_none _
 
 pub loop-i-preserved : goal.loop-i-preserved
-loop-i-preserved c = some_passed _ _ c.loop-i.invariant c.if-unclean-bound.ensures
+loop-i-preserved c = some_passed _ _ c.loop-i.invariant c.if-unclean_bound.ensures
 
-pub returns-then-unclean-bound : goal.returns-then-unclean-bound
-returns-then-unclean-bound c =
-    some_found 9 c.loop-i.i _ (omega (arith, c.loop-i-test.true)) c.if-unclean-bound.ensures
+pub returns-then-unclean_bound : goal.returns-then-unclean_bound
+returns-then-unclean_bound c =
+    some_found 9 c.loop-i.i _ (omega (arith, c.loop-i-test.true)) c.if-unclean_bound.ensures
 
 pub returns : goal.returns
 returns c = some_all 9 _ _ c.loop-i.invariant (omega (arith, c.loop-i-test.false, c.loop-i.auto.i-end))

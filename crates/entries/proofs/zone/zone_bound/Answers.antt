@@ -4,7 +4,7 @@ use Rattle.entries.specs.declared.entry.Entry.{Entry}
 use Rattle.entries.proofs.Sizes.{number_small}
 use Rattle.entries.proofs.zone.zone_bound.Goals as goal
 
-pub entry-bound-requires : goal.entry-bound-requires
-entry-bound-requires g c =
+pub entry_bound-requires : goal.entry_bound-requires
+entry_bound-requires g c =
     let P : Entry → Type 0 = λ e. says_no_limit e ≡ false → nat_abs e.number ≤ 262143 in
-    subst P (sym c.read-entry.ensures) (number_small c.args.bytes.now c.args.j c.args.i)
+    subst P (sym c.read_entry.ensures) (number_small c.args.bytes.now c.args.j c.args.i)

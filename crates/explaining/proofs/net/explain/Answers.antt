@@ -11,5 +11,5 @@ returns-in-Err c =
 
 pub returns-in-Ok : goal.returns-in-Ok
 returns-in-Ok c =
-    let none = (tested_ok _ c.in-default.field-0 _ c.in-default.ensures).0 in
-    net_whole c.args.bytes.now c.new.result.bytes.now (string_bytes c.new-text.result) (string_bytes c.write-net.new.text) none c.new.ensures c.new-text.ensures.bytes c.in-Ok.ensures
+    let none = (tested_ok _ c.in_default.field-0 _ c.in_default.ensures).0 in
+    net_whole c.args.bytes.now c.new.result.bytes.now (string_bytes c.new-text.result) (string_bytes c.write_net.new.text) none c.new.ensures c.new-text.ensures.bytes c.in-Ok.ensures

@@ -12,7 +12,7 @@ returns c =
     let inputs = side_lines bytes number Input in
     let outputs = side_lines bytes number Output in
     let named = string_bytes c.writeln.new.self in
-    let all = string_bytes c.write-side-2.new.text in
-    IfOk-weaker c.write-side-2.result _ _
-    (λ _ h. two_more (string_bytes c.args.text.now) named all (line (codes "transition " ++ decimal number)) (inputs ++ outputs) c.in-ok-writeln.ensures.bytes (two_more named (string_bytes c.write-side.new.text) all inputs outputs c.in-ok-write-side.ensures h))
-    c.write-side-2.ensures
+    let all = string_bytes c.write_side-2.new.text in
+    IfOk-weaker c.write_side-2.result _ _
+    (λ _ h. two_more (string_bytes c.args.text.now) named all (line (codes "transition " ++ decimal number)) (inputs ++ outputs) c.in_ok-writeln.ensures.bytes (two_more named (string_bytes c.write_side.new.text) all inputs outputs c.in_ok-write_side.ensures h))
+    c.write_side-2.ensures

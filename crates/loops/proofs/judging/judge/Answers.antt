@@ -9,12 +9,12 @@ use Rattle.loops.proofs.judging.judge.Goals as goal
 pub loop-rest-init : goal.loop-rest-init
 loop-rest-init g c = progress_none g.B.Bound.kind c.args.text.now c.zero-sum.result c.zero-sum.ensures
 
-pub returns-then-count-eq-MOST-LINES : goal.returns-then-count-eq-MOST-LINES
-returns-then-count-eq-MOST-LINES g c =
+pub returns-then-count-eq-MOST_LINES : goal.returns-then-count-eq-MOST_LINES
+returns-then-count-eq-MOST_LINES g c =
     let rest = c.loop-rest.rest.now in
     let some : 0 < length rest = omega (arith, eqb-false (length rest) 0 (sym c.loop-rest-test.ensures)) in
     let bad = c.after.result in
-    faulty g.B.Bound.kind c.args.text.now rest c.loop-rest.sum c.loop-rest.count some c.loop-rest.invariant bad (ap (λ b. b.line) c.after.ensures) (inr (c.if-count-eq-MOST-LINES.true, ap (λ b. b.fault) c.after.ensures))
+    faulty g.B.Bound.kind c.args.text.now rest c.loop-rest.sum c.loop-rest.count some c.loop-rest.invariant bad (ap (λ b. b.line) c.after.ensures) (inr (c.if-count-eq-MOST_LINES.true, ap (λ b. b.fault) c.after.ensures))
 
 pub returns-in-Err : goal.returns-in-Err
 returns-in-Err g c =

@@ -15,5 +15,5 @@ pub returns-in-None : goal.returns-in-None
 returns-in-None g c =
     let line = c.args.line.now in
     let unlike : line ≡ codes "no limit" → ⊥ = λ e. both_ways c.eq.result c.if-eq.false ((slice_eq-Decides Decides-eqb _ _ _ c.eq.ensures).1 e) in
-    let other = MatchOption-at_none _ _ c.in-None.is (strip_prefix_is Decides-eqb line (60 ∷ []) c.strip-prefix.result c.strip-prefix.ensures.cases) in
-    c.number-bound-in-None.ensures ∙ sym (marked_plain g.B.Bound.kind line other) ∙ sym (bound_other g.B.Bound.kind line unlike)
+    let other = MatchOption-at_none _ _ c.in-None.is (strip_prefix_is Decides-eqb line (60 ∷ []) c.strip_prefix.result c.strip_prefix.ensures.cases) in
+    c.number_bound-in-None.ensures ∙ sym (marked_plain g.B.Bound.kind line other) ∙ sym (bound_other g.B.Bound.kind line unlike)

@@ -6,7 +6,7 @@ use Rattle.matchings.proofs.matching.is_matching.Goals as goal
 pub returns : goal.returns
 returns g c =
     let places = c.args.places.now in
-    let slots = c.output-places-arcs.result in
-    let count = c.output-count-count.result in
-    counted_fit (take count slots) places c.args.matching c.count-fitting.result (subst (λ ds. Fitting (take count slots) places ds c.count-fitting.result) c.digits.ensures c.count-fitting.ensures)
-    ∙ fit_is_matching g.B.Bound.kind (g.N.NetStore.net c.args.store.now) c.args.transition places slots count c.output-count-count.ensures.is c.output-count-count.ensures.few c.output-places-arcs.ensures c.args.matching
+    let slots = c.output_places-arcs.result in
+    let count = c.output_count-count.result in
+    counted_fit (take count slots) places c.args.matching c.count_fitting.result (subst (λ ds. Fitting (take count slots) places ds c.count_fitting.result) c.digits.ensures c.count_fitting.ensures)
+    ∙ fit_is_matching g.B.Bound.kind (g.N.NetStore.net c.args.store.now) c.args.transition places slots count c.output_count-count.ensures.is c.output_count-count.ensures.few c.output_places-arcs.ensures c.args.matching

@@ -4,5 +4,5 @@ use Rattle.matchings.proofs.matching.output_count.Goals as goal
 
 pub returns : goal.returns
 returns g c =
-    let few = few_outputs g.B.Bound.kind (g.N.NetStore.net c.args.store.now) c.args.transition c.keeps-limits.ensures in
+    let few = few_outputs g.B.Bound.kind (g.N.NetStore.net c.args.store.now) c.args.transition c.keeps_limits.ensures in
     record { is = c.from.ensures ∙ c.arcs.ensures; few = omega (arith, few, c.from.ensures, c.arcs.ensures) }

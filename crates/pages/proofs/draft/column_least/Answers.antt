@@ -6,7 +6,7 @@ use Rattle.pages.proofs.draft.column_least.Goals as goal
 
 pub loop-j-preserved : goal.loop-j-preserved
 loop-j-preserved g c =
-    let less = c.lesser-least.ensures ∙ ap (λ b. lesser g.B.Bound.kind b c.loop-j.least) c.bound-at.ensures in
+    let less = c.lesser-least.ensures ∙ ap (λ b. lesser g.B.Bound.kind b c.loop-j.least) c.bound_at.ensures in
     let here : eqb c.loop-j.j 0 ≡ false = ne_eqb c.loop-j.j 0 (λ e. omega (arith, e, c.loop-j.auto.j)) in
     (λ e. absurd (omega (arith, e, c.loop-j-test.true)), one_more c.loop-j.j _ _ c.loop-j.least _ c.loop-j.invariant.1 (less ∙ sym (cond-false _ _ _ here)))
 

@@ -5,13 +5,13 @@ use Rattle.pages.proofs.settle.settle.Goals as goal
 pub loop-pivot-init : goal.loop-pivot-init
 loop-pivot-init g c = settled_none g.B.Bound.kind c.args.points c.args.pivots.now c.args.cells.now
 
-pub returns-then-not-settle-point : goal.returns-then-not-settle-point
-returns-then-not-settle-point g c =
-    settled_not g.B.Bound.kind c.args.points c.args.pivots.now c.args.cells.now c.loop-pivot.pivot-index c.loop-pivot.cells c.loop-pivot-test.true c.loop-pivot.invariant _ c.if-not-settle-point.ensures.cells (sym c.if-not-settle-point.ensures.answer)
+pub returns-then-not-settle_point : goal.returns-then-not-settle_point
+returns-then-not-settle_point g c =
+    settled_not g.B.Bound.kind c.args.points c.args.pivots.now c.args.cells.now c.loop-pivot.pivot-index c.loop-pivot.cells c.loop-pivot-test.true c.loop-pivot.invariant _ c.if-not-settle_point.ensures.cells (sym c.if-not-settle_point.ensures.answer)
 
 pub loop-pivot-preserved : goal.loop-pivot-preserved
 loop-pivot-preserved g c =
-    settled_more g.B.Bound.kind c.args.points c.args.pivots.now c.args.cells.now c.loop-pivot.pivot-index c.loop-pivot.cells c.loop-pivot-test.true c.loop-pivot.invariant _ c.if-not-settle-point.ensures.cells (sym c.if-not-settle-point.ensures.answer)
+    settled_more g.B.Bound.kind c.args.points c.args.pivots.now c.args.cells.now c.loop-pivot.pivot-index c.loop-pivot.cells c.loop-pivot-test.true c.loop-pivot.invariant _ c.if-not-settle_point.ensures.cells (sym c.if-not-settle_point.ensures.answer)
 
 pub returns : goal.returns
 returns g c =

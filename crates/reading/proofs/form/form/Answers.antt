@@ -4,6 +4,6 @@ use Rattle.reading.proofs.form.form.Goals as goal
 pub returns : goal.returns
 returns g c =
     record {
-      kept = record_kept g.B.Bound.kind c.args.bytes.now c.requires c.zone-tokens-tokens.result c.zone-tokens-tokens.ensures c.args.cells.now c.fill.new.cells c.settle-all.new.cells c.fill.ensures c.settle-all.result c.settle-all.ensures;
-      formed = record_formed g.B.Bound.kind c.args.bytes.now c.requires c.zone-tokens-tokens.result c.zone-tokens-tokens.ensures c.args.cells.now c.fill.new.cells c.settle-all.new.cells c.fill.ensures c.settle-all.result c.settle-all.ensures;
+      kept = record_kept g.B.Bound.kind c.args.bytes.now c.requires c.zone_tokens-tokens.result c.zone_tokens-tokens.ensures c.args.cells.now c.fill.new.cells c.settle_all.new.cells c.fill.ensures c.settle_all.result c.settle_all.ensures;
+      formed = record_formed g.B.Bound.kind c.args.bytes.now c.requires c.zone_tokens-tokens.result c.zone_tokens-tokens.ensures c.args.cells.now c.fill.new.cells c.settle_all.new.cells c.fill.ensures c.settle_all.result c.settle_all.ensures;
     }

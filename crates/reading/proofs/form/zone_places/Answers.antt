@@ -6,5 +6,5 @@ use Rattle.reading.proofs.form.zone_places.Goals as goal
 pub loop-t-preserved : goal.loop-t-preserved
 loop-t-preserved c =
     let place = place_at c.args.bytes.now in
-    let few : c.loop-t.t < 12 = omega (arith, c.loop-t-test.true, c.zone-tokens-t-end.ensures, c.requires) in
+    let few : c.loop-t.t < 12 = omega (arith, c.loop-t-test.true, c.zone_tokens-t-end.ensures, c.requires) in
     places_more place c.loop-t.t c.loop-t.tokens c.loop-t.invariant c.zone_place.result c.with_tokens.result few c.zone_place.ensures c.with_tokens.ensures.held

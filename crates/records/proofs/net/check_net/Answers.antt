@@ -7,14 +7,14 @@ pub loop-init : goal.loop-init
 loop-init c =
     walked_none c.in_ok-header.header c.args.bytes.now c.new-reader.result.rest.now c.read_header.new.reader.rest.now c.read_header.new.reader.next c.new-reader.ensures.rest (c.in_ok-header.ensures.rest refl) (c.in_ok-header.ensures.next refl)
 
-pub returns-in-err-read-transition : goal.returns-in-err-read-transition
-returns-in-err-read-transition c =
+pub returns-in_err-read_transition : goal.returns-in_err-read_transition
+returns-in_err-read_transition c =
     let bytes = c.args.bytes.now in
-    let h = c.in-ok-header.header in
-    let clean = header_clean bytes c.new-reader.result.rest.now h c.new-reader.ensures.rest c.in-ok-header.ensures.answer in
-    let f = c.in-err-read-transition.field-0.0 in
-    let fault = tested_err tt f _ c.in-err-read-transition.ensures.answer in
-    let p = err_from_is_err_and c.from-residual-in-err-read-transition.result c.from-residual-in-err-read-transition.ensures.1 in
+    let h = c.in_ok-header.header in
+    let clean = header_clean bytes c.new-reader.result.rest.now h c.new-reader.ensures.rest c.in_ok-header.ensures.answer in
+    let f = c.in_err-read_transition.field-0.0 in
+    let fault = tested_err tt f _ c.in_err-read_transition.ensures.answer in
+    let p = err_from_is_err_and c.from-residual-in_err-read_transition.result c.from-residual-in_err-read_transition.ensures.1 in
     rw (p.1, p.2) (tested_some _ f _ (walked_fault h c.loop.counter c.loop.reader.next c.loop.reader.rest.now bytes c.loop-test.true c.loop.invariant f fault clean.0 clean.1))
 
 pub loop-preserved : goal.loop-preserved

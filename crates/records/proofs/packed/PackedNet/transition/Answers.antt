@@ -5,10 +5,10 @@ use Rattle.records.proofs.packed.PackedNet.transition.Goals as goal
 span : (n : ℕ) → n + 41 - n ≡ 41
 span n = omega arith
 
-pub slice-bounds-result-end : goal.slice-bounds-result-end
-slice-bounds-result-end c =
+pub slice_bounds-result-end : goal.slice_bounds-result-end
+slice_bounds-result-end c =
     let bytes = c.args.self.now.bytes.now in
-    omega (arith, c.from.ensures, transition_whole bytes c.args.self.now.tested c.args.number (sym c.if-not-has-transition.ensures))
+    omega (arith, c.from.ensures, transition_whole bytes c.args.self.now.tested c.args.number (sym c.if-not-has_transition.ensures))
 
 pub returns : goal.returns
 returns c =

@@ -12,9 +12,9 @@ pub loop-a-preserved : goal.loop-a-preserved
 loop-a-preserved g c =
     let arcs = arcs_of (g.N.NetStore.net c.args.store.now) c.args.transition Input in
     let room : c.loop-a.tokens.count < 12 = omega (arith, c.loop-a.invariant.0, c.loop-a-test.true, c.input_count-a-end.ensures.few, c.requires) in (
-      omega (arith, c.loop-a.invariant.0, c.with_tokens.ensures.count room),
+      omega (arith, c.loop-a.invariant.0, c.with-tokens.ensures.count room),
       λ places held.
-          held_after (λ arc. arc.place) arcs c.loop-a.a places c.loop-a.tokens (c.loop-a.invariant.1 places held) _ c.input_place.result c.with_tokens.result (omega (arith, c.loop-a-test.true, c.input_count-a-end.ensures.is)) room (c.input_place.ensures ∙ ap (λ arc. arc.place) (arc_number arcs c.loop-a.a _)) c.with_tokens.ensures.held,
+          held_after (λ arc. arc.place) arcs c.loop-a.a places c.loop-a.tokens (c.loop-a.invariant.1 places held) _ c.input_place.result c.with-tokens.result (omega (arith, c.loop-a-test.true, c.input_count-a-end.ensures.is)) room (c.input_place.ensures ∙ ap (λ arc. arc.place) (arc_number arcs c.loop-a.a _)) c.with-tokens.ensures.held,
     )
 
 pub returns : goal.returns

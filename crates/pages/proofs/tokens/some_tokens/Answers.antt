@@ -7,7 +7,7 @@ pub loop-number-preserved : goal.loop-number-preserved
 loop-number-preserved c =
     let count = held_first (λ i. numbered c.args.places.now i 0) c.args.numbers.now c.loop-number.number-index c.loop-number.tokens c.loop-number.invariant (omega (arith, c.loop-number-test.true)) in
     let room : c.loop-number.tokens.count < 12 = omega (arith, count, c.loop-number-test.true, c.requires) in
-    held_more (λ i. numbered c.args.places.now i 0) c.args.numbers.now c.loop-number.number-index c.loop-number.tokens c.loop-number.invariant 0 c.place_of.result c.with_tokens.result c.loop-number-test.true room c.place_of.ensures c.with_tokens.ensures.held
+    held_more (λ i. numbered c.args.places.now i 0) c.args.numbers.now c.loop-number.number-index c.loop-number.tokens c.loop-number.invariant 0 c.place_of.result c.with-tokens.result c.loop-number-test.true room c.place_of.ensures c.with-tokens.ensures.held
 
 pub returns : goal.returns
 returns c =

@@ -14,7 +14,7 @@ returns-in_err-read_transition c =
     let clean = header_clean bytes c.new-reader.result.rest.now h c.new-reader.ensures.rest c.in_ok-header.ensures.answer in
     let f = c.in_err-read_transition.field-0.0 in
     let fault = tested_err tt f _ c.in_err-read_transition.ensures.answer in
-    let p = err_from_is_err_and c.from-residual-in_err-read_transition.result c.from-residual-in_err-read_transition.ensures.1 in
+    let p = err_from_is_err_and c.from_residual-in_err-read_transition.result c.from_residual-in_err-read_transition.ensures.1 in
     rw (p.1, p.2) (tested_some _ f _ (walked_fault h c.loop.counter c.loop.reader.next c.loop.reader.rest.now bytes c.loop-test.true c.loop.invariant f fault clean.0 clean.1))
 
 pub loop-preserved : goal.loop-preserved

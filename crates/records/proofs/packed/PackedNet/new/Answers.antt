@@ -11,10 +11,10 @@ abbrev held : Bor (List ℕ) × Unit {0} → List ℕ
 held p = p.0.now
 
 pub invariant_of-result : goal.invariant_of-result
-invariant_of-result c = (
-  elim c.if-is_sound.branch [
-    | then-is_sound w ↦ subst Tested (sym (ap held w.result-is)) (sym w.if-is_sound.ensures)
-    | else-is_sound w ↦ subst Tested (sym (ap held w.result-is)) no_net_sound
-  ],
-  tt,
-)
+invariant_of-result c = record {
+  tested =
+    elim c.if-is_sound.branch [
+      | then-is_sound w ↦ subst Tested (sym (ap held w.result-is)) (sym w.if-is_sound.ensures)
+      | else-is_sound w ↦ subst Tested (sym (ap held w.result-is)) no_net_sound
+    ];
+}

@@ -11,7 +11,7 @@ returns-in_err-make g c =
     let kind = g.B.Bound.kind in
     let fits : SFits w32 c.in-Some.number = search rules in
     let h : Err c.in_err-make.field-0.0 ≡ made kind c.in-Some.number c.args.strict = simp to_z-of_z at c.in_err-make.ensures in
-    let p = err_from_is_err_and c.from-residual.result c.from-residual.ensures.1 in
+    let p = err_from_is_err_and c.from_residual.result c.from_residual.ensures.1 in
     rw (p.1, p.2) (ap unmade h ∙ number_bound_by kind c.args.text.now c.args.strict c.in-Some.number c.in-Some.ensures)
 
 pub returns : goal.returns

@@ -7,4 +7,4 @@ pub loop-t-preserved : goal.loop-t-preserved
 loop-t-preserved c =
     let place = place_at c.args.bytes.now in
     let few : c.loop-t.t < 12 = omega (arith, c.loop-t-test.true, c.zone_tokens-t-end.ensures, c.requires) in
-    places_more place c.loop-t.t c.loop-t.tokens c.loop-t.invariant c.zone_place.result c.with_tokens.result few c.zone_place.ensures c.with_tokens.ensures.held
+    places_more place c.loop-t.t c.loop-t.tokens c.loop-t.invariant c.zone_place.result c.with-tokens.result few c.zone_place.ensures c.with-tokens.ensures.held

@@ -8,7 +8,6 @@ use nets::Side;
 use records::net::check_net;
 use records::packed::PackedNet;
 use std::alloc::{AllocError, Global};
-use std::fmt;
 
 // A line for an arc, if there is such an arc.
 fn write_arc(
@@ -17,7 +16,7 @@ fn write_arc(
     transition: u8,
     side: Side,
     arc: u8,
-) -> fmt::Result
+) -> Result<(), AllocError>
     ensures { OnOk result (string_bytes text.new ≡ string_bytes text.old ++ arc_line net.now.bytes.now transition side arc) }
 {
     let Some(slot) = net.slot(transition, side, arc) else {
@@ -28,7 +27,12 @@ fn write_arc(
 }
 
 // A line for each arc of a side.
-fn write_side(text: &mut String, net: &PackedNet<'_>, transition: u8, side: Side) -> fmt::Result
+fn write_side(
+    text: &mut String,
+    net: &PackedNet<'_>,
+    transition: u8,
+    side: Side,
+) -> Result<(), AllocError>
     ensures { OnOk result (string_bytes text.new ≡ string_bytes text.old ++ side_lines net.now.bytes.now transition side) }
 {
     for arc in 1..=net.arc_count(transition, side) {
@@ -37,7 +41,7 @@ fn write_side(text: &mut String, net: &PackedNet<'_>, transition: u8, side: Side
     Ok(())
 }
 
-fn write_transition(text: &mut String, net: &PackedNet<'_>, number: u8) -> fmt::Result
+fn write_transition(text: &mut String, net: &PackedNet<'_>, number: u8) -> Result<(), AllocError>
     ensures { OnOk result (string_bytes text.new ≡ string_bytes text.old ++ transition_lines net.now.bytes.now number) }
 {
     writeln!(text, "transition {number}")?;
@@ -45,7 +49,7 @@ fn write_transition(text: &mut String, net: &PackedNet<'_>, number: u8) -> fmt::
     write_side(text, net, number, Side::Output)
 }
 
-fn write_net(text: &mut String, net: &PackedNet<'_>) -> fmt::Result
+fn write_net(text: &mut String, net: &PackedNet<'_>) -> Result<(), AllocError>
     ensures { OnOk result (string_bytes text.new ≡ string_bytes text.old ++ net_text net.now.bytes.now) }
 {
     let header = net.header();
@@ -65,9 +69,6 @@ pub fn explain(heap: Global, bytes: &[u8]) -> Result<String, AllocError>
         return format!(in heap; "refused {fault}\n");
     }
     let mut text = String::new(heap);
-    match write_net(&mut text, &PackedNet::new(bytes)) {
-        Ok(()) => Ok(text),
-        // the text gives up only where memory does
-        Err(_) => Err(AllocError),
-    }
+    write_net(&mut text, &PackedNet::new(bytes))?;
+    Ok(text)
 }

@@ -9,7 +9,7 @@ returns-in-Err c =
     let fault = c.in-Err.fault in
     IfOk-weaker c.format.result _ _ (λ _ h. h ∙ refused_whole c.args.bytes.now fault (tested_err _ fault _ c.in-Err.ensures)) c.format.ensures.ok
 
-pub returns-in-Ok : goal.returns-in-Ok
-returns-in-Ok c =
+pub returns : goal.returns
+returns c =
     let none = (tested_ok _ c.in_default.field-0 _ c.in_default.ensures).0 in
-    net_whole c.args.bytes.now c.new.result.bytes.now (string_bytes c.new-text.result) (string_bytes c.write_net.new.text) none c.new.ensures c.new-text.ensures.bytes c.in-Ok.ensures
+    net_whole c.args.bytes.now c.new.result.bytes.now (string_bytes c.new-text.result) (string_bytes c.write_net.new.text) none c.new.ensures c.new-text.ensures.bytes c.in_ok-write_net.ensures

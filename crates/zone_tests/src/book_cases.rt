@@ -62,7 +62,7 @@ fn a_book_hands_on_its_pages(rt: HostRuntime) -> Result<(), Fail> {
         places: &places,
     };
     let page = book.page(63, 8).ok_or("no last page")?;
-    assert_eq!(rt; page.places, &[63; 8]);
+    assert_eq!(rt; page.places, [63; 8].as_slice());
     assert_eq!(rt; page.cells.len(), 81);
     assert_eq!(rt; page.bound(1, 0), number(63));
     assert!(rt; book.page(64, 0).is_none());

@@ -5,19 +5,19 @@ ghost use Rattle.bounds.specs.PlainKind.{plain_limit};
 ghost use Rattle.bounds.specs.Texts.{limit_text};
 
 use bounds::{Bound, MarkedBound, PlainBound};
-use std::fmt;
+use std::alloc::AllocError;
 
 pub trait BoundWords: Bound {
     ghost words: { Self → List ℕ };
 
-    fn write_words(self, text: &mut String) -> fmt::Result
+    fn write_words(self, text: &mut String) -> Result<(), AllocError>
         ensures { OnOk result (string_bytes text.new ≡ string_bytes text.old ++ words self) };
 }
 
 impl BoundWords for PlainBound {
     ghost words = { λ b. limit_text (plain_limit b.limit) };
 
-    fn write_words(self, text: &mut String) -> fmt::Result {
+    fn write_words(self, text: &mut String) -> Result<(), AllocError> {
         write!(text, "{self}")
     }
 }
@@ -25,7 +25,7 @@ impl BoundWords for PlainBound {
 impl BoundWords for MarkedBound {
     ghost words = { λ b. limit_text (marked_limit b.limit) };
 
-    fn write_words(self, text: &mut String) -> fmt::Result {
+    fn write_words(self, text: &mut String) -> Result<(), AllocError> {
         write!(text, "{self}")
     }
 }

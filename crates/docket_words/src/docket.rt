@@ -13,7 +13,6 @@ use records::net::check_net;
 use records::reader::Reader;
 use records::transition::TransitionRecord;
 use std::alloc::{AllocError, Global};
-use std::fmt;
 
 // The initial tokens, and the zones.
 fn write_marking<B: BoundWords>(
@@ -22,7 +21,7 @@ fn write_marking<B: BoundWords>(
     header: DocketHeader,
     places: u8,
     cells: &mut [B],
-) -> fmt::Result
+) -> Result<(), AllocError>
     requires { length cells.old ≡ 169 }
     ensures { OnOk result (MarkingTold B.Bound.kind B.BoundWords.words places header reader.old.next reader.old.rest.now (string_bytes text.old) (string_bytes text.new)) }
 {
@@ -39,7 +38,7 @@ fn write_docket<B: BoundWords>(
     reader: &mut Reader<'_>,
     places: u8,
     cells: &mut [B],
-) -> fmt::Result
+) -> Result<(), AllocError>
     requires { length cells.old ≡ 169 }
     ensures { OnOk result (DocketTold B.Bound.kind B.BoundWords.words places reader.old.next reader.old.rest.now (string_bytes text.old) (string_bytes text.new)) }
 {
@@ -62,7 +61,7 @@ fn pass_net(reader: &mut Reader<'_>, transitions: u8)
 }
 
 // The docket part under this net, if any bytes follow the net records.
-fn write_part(text: &mut String, bytes: &[u8], net: NetHeader) -> fmt::Result
+fn write_part(text: &mut String, bytes: &[u8], net: NetHeader) -> Result<(), AllocError>
     ensures { OnOk result (PartTold net bytes.now (string_bytes text.old) (string_bytes text.new)) }
 {
     let size = NetHeader::SIZE + TransitionRecord::SIZE * usize::from(net.transitions);
@@ -88,9 +87,6 @@ pub fn explain_file(heap: Global, bytes: &[u8]) -> Result<String, AllocError>
     let Ok(net) = check_net(bytes) else {
         return Ok(text);
     };
-    match write_part(&mut text, bytes, net) {
-        Ok(()) => Ok(text),
-        // the text gives up only where memory does
-        Err(_) => Err(AllocError),
-    }
+    write_part(&mut text, bytes, net)?;
+    Ok(text)
 }

@@ -8,7 +8,7 @@ use entries::docket::DocketHeader;
 use entries::fault::{EntryFault, EntryRefusal};
 use entries::token::InitialToken;
 use records::reader::Reader;
-use std::fmt;
+use std::alloc::AllocError;
 
 // A refusal of the record with this number.
 pub(crate) fn at_record<X>(at: usize, read: Result<X, EntryRefusal>) -> Result<X, EntryFault>
@@ -42,7 +42,7 @@ fn read_token(reader: &mut Reader<'_>) -> Result<InitialToken, EntryFault>
 pub(crate) fn write_header(
     text: &mut String,
     reader: &mut Reader<'_>,
-) -> Result<Option<DocketHeader>, fmt::Error>
+) -> Result<Option<DocketHeader>, AllocError>
     ensures text { IfOk result (λ o. Stepped (placed reader.old.next (docket_header (take 4 reader.old.rest.now))) head_line (string_bytes text.old) (string_bytes text.new) o) }
     ensures rest { IfOk result (λ o. is_some o ≡ true → reader.new.rest.now ≡ drop 4 reader.old.rest.now) }
     ensures next { IfOk result (λ o. is_some o ≡ true → reader.new.next ≡ reader.old.next + 1) }
@@ -65,7 +65,7 @@ fn write_token(
     text: &mut String,
     reader: &mut Reader<'_>,
     number: u8,
-) -> Result<Option<InitialToken>, fmt::Error>
+) -> Result<Option<InitialToken>, AllocError>
     ensures text { IfOk result (λ o. Stepped (placed reader.old.next (initial_token (take 3 reader.old.rest.now))) (initial_line number) (string_bytes text.old) (string_bytes text.new) o) }
     ensures rest { IfOk result (λ o. is_some o ≡ true → reader.new.rest.now ≡ drop 3 reader.old.rest.now) }
     ensures next { IfOk result (λ o. is_some o ≡ true → reader.new.next ≡ reader.old.next + 1) }
@@ -89,7 +89,7 @@ pub(crate) fn write_tokens(
     reader: &mut Reader<'_>,
     count: u8,
     places: u8,
-) -> Result<Option<bool>, fmt::Error>
+) -> Result<Option<bool>, AllocError>
     ensures { IfOk result (λ o. TokensWritten places count reader.old.next reader.old.rest.now (string_bytes text.old) (string_bytes text.new) reader.new.next reader.new.rest.now o) }
 {
     let mut outside = false;

@@ -12,7 +12,7 @@ use entries::refusal::ZONE_SIZE;
 use pages::tokens::Tokens;
 use reading::read_zone;
 use records::reader::Reader;
-use std::fmt;
+use std::alloc::AllocError;
 
 // What is wrong with an initial marking, lowest number first.
 pub(crate) fn marking_refusal(tokens: u8, outside: bool) -> Option<EntryRefusal>
@@ -65,7 +65,7 @@ fn write_next<B: BoundWords>(
     places: u8,
     known: Option<EntryRefusal>,
     cells: &mut [B],
-) -> Result<bool, fmt::Error>
+) -> Result<bool, AllocError>
     requires { length cells.old ≡ 169 }
     ensures { IfOk result (λ went. ZoneWritten B.Bound.kind B.BoundWords.words places known number reader.old.next reader.old.rest.now (string_bytes text.old) (string_bytes text.new) reader.new.next reader.new.rest.now went) }
 {
@@ -88,7 +88,7 @@ fn write_zones<B: BoundWords>(
     zones: u8,
     places: u8,
     cells: &mut [B],
-) -> fmt::Result
+) -> Result<(), AllocError>
     requires { length cells.old ≡ 169 }
     ensures { OnOk result (ZonesTold B.Bound.kind B.BoundWords.words places zones 1 reader.old.next reader.old.rest.now (string_bytes text.old) (string_bytes text.new)) }
 {
@@ -109,7 +109,7 @@ pub(crate) fn write_target<B: BoundWords>(
     zones: u8,
     places: u8,
     cells: &mut [B],
-) -> fmt::Result
+) -> Result<(), AllocError>
     requires { length cells.old ≡ 169 }
     ensures { OnOk result (TargetTold B.Bound.kind B.BoundWords.words places known zones reader.old.next reader.old.rest.now (string_bytes text.old) (string_bytes text.new)) }
 {

@@ -6,10 +6,10 @@ ghost use Rattle.std.specs.Prelude.{◌≡◌, ◌++◌, string_bytes, OnOk};
 use crate::bound::BoundWords;
 use crate::point::Point;
 use pages::draft::bound_at;
-use std::fmt;
+use std::alloc::AllocError;
 
 // The point of a column, parted from the one before it.
-fn write_column(text: &mut String, column: u8) -> fmt::Result
+fn write_column(text: &mut String, column: u8) -> Result<(), AllocError>
     ensures { OnOk result (string_bytes text.new ≡ string_bytes text.old ++ column_text column) }
 {
     let point = Point(column);
@@ -20,14 +20,24 @@ fn write_column(text: &mut String, column: u8) -> fmt::Result
     }
 }
 
-fn write_cell<B: BoundWords>(text: &mut String, cells: &[B], row: u8, column: u8) -> fmt::Result
+fn write_cell<B: BoundWords>(
+    text: &mut String,
+    cells: &[B],
+    row: u8,
+    column: u8,
+) -> Result<(), AllocError>
     ensures { OnOk result (string_bytes text.new ≡ string_bytes text.old ++ cell_text B.BoundWords.words (in_draft B.Bound.kind cells.now) row column) }
 {
     write_column(text, column)?;
     bound_at(cells, row, column).write_words(text)
 }
 
-fn write_row<B: BoundWords>(text: &mut String, cells: &[B], points: u8, row: u8) -> fmt::Result
+fn write_row<B: BoundWords>(
+    text: &mut String,
+    cells: &[B],
+    points: u8,
+    row: u8,
+) -> Result<(), AllocError>
     ensures { OnOk result (string_bytes text.new ≡ string_bytes text.old ++ row_text B.BoundWords.words (in_draft B.Bound.kind cells.now) points row) }
 {
     let point = Point(row);
@@ -38,7 +48,11 @@ fn write_row<B: BoundWords>(text: &mut String, cells: &[B], points: u8, row: u8)
     writeln!(text)
 }
 
-pub fn write_table<B: BoundWords>(text: &mut String, cells: &[B], points: u8) -> fmt::Result
+pub fn write_table<B: BoundWords>(
+    text: &mut String,
+    cells: &[B],
+    points: u8,
+) -> Result<(), AllocError>
     ensures { OnOk result (string_bytes text.new ≡ string_bytes text.old ++ table_text B.BoundWords.words (in_draft B.Bound.kind cells.now) points) }
 {
     for row in 0..points {

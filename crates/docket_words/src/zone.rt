@@ -7,6 +7,7 @@ use crate::bound::BoundWords;
 use crate::table::write_table;
 use explaining::Counted;
 use pages::tokens::Tokens;
+use std::alloc::AllocError;
 use std::fmt;
 
 // The target is number 0, and the listed zones follow it.
@@ -26,14 +27,14 @@ impl fmt::Display for ZoneName {
     }
 }
 
-fn write_place(text: &mut String, number: u8, place: u8) -> fmt::Result
+fn write_place(text: &mut String, number: u8, place: u8) -> Result<(), AllocError>
     ensures { OnOk result (string_bytes text.new ≡ string_bytes text.old ++ place_line number place) }
 {
     writeln!(text, "  token {number} in place {place}")
 }
 
 // A line for each token.
-fn write_places(text: &mut String, tokens: Tokens) -> fmt::Result
+fn write_places(text: &mut String, tokens: Tokens) -> Result<(), AllocError>
     requires { tokens.count ≤ 12 }
     ensures { OnOk result (string_bytes text.new ≡ string_bytes text.old ++ places_text tokens) }
 {
@@ -49,7 +50,7 @@ pub fn write_zone<B: BoundWords>(
     number: u8,
     tokens: Tokens,
     cells: &[B],
-) -> fmt::Result
+) -> Result<(), AllocError>
     requires { tokens.count ≤ 12 }
     ensures { OnOk result (string_bytes text.new ≡ string_bytes text.old ++ zone_text B.BoundWords.words number tokens (in_draft B.Bound.kind cells.now)) }
 {

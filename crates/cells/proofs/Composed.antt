@@ -1,22 +1,22 @@
 -- Both predecessors in the cells of a draft, step by step. Assumes nothing.
-use Rattle.std.proofs.Common.{◌≡◌, ℕ, zero, suc, ◌+◌, ◌^◌, ◌<◌, ◌≤◌, Bool, true, false, cond, eqb, ◌⊎◌, List, [], ◌∷◌, ◌++◌, map, length, get_or, sym, refl, ap, ◌∙◌, subst, inl, inr, ⊎_elim, arith}
-use Rattle.std.proofs.lemmas.Bool.{cases_Bool, cases_eq}
+use Rattle.std.proofs.Common.{◌≡◌, ℕ, zero, suc, ◌+◌, ◌^◌, ◌<◌, ◌≤◌, true, false, ◌⊎◌, List, [], ◌∷◌, length, get_or, sym, refl, ap, ◌∙◌, subst, inl, inr, ⊎_elim, arith}
+use Rattle.std.proofs.lemmas.Bool.{cases_Bool}
 use Rattle.bounds.specs.Kinds.{Kind}
-use Rattle.nets.specs.Nets.{Arc, Transition, TransitionLimits, Every}
-use Rattle.walks.specs.NormalForms.{largest_entry, most_points}
-use Rattle.walks.specs.Walks.{Matrix, Negative, NormalForm, Settled, Sized, Still, counted}
+use Rattle.nets.specs.Nets.{Transition, TransitionLimits, Every}
+use Rattle.walks.specs.NormalForms.{largest_entry}
+use Rattle.walks.specs.Walks.{Negative, NormalForm, Settled, Sized, counted}
 use Rattle.walks.proofs.Closed.{Same}
-use Rattle.walks.proofs.NormalForms.{same_back, same_from, same_to, same_negative, same_sized, same_still, same_settled}
-use Rattle.zones.specs.Predecessors.{among, matches, others, staying, picked, narrowed_by, DelayPredecessor, FiringPredecessor, Void, released}
-use Rattle.zones.specs.Zones.{Zone, points, InNormalForm, SizedZone}
+use Rattle.walks.proofs.NormalForms.{same_back, same_from, same_negative, same_sized, same_still, same_settled}
+use Rattle.zones.specs.Predecessors.{among, matches, staying, picked, narrowed_by, DelayPredecessor, FiringPredecessor, Void}
+use Rattle.zones.specs.Zones.{SizedZone}
 use Rattle.cells.specs.Cells.{in_draft, times, matched_cells, picked_cells, input_cells, added_cells, delayed_cells, arc_at, column_least}
 use Rattle.cells.specs.Drafts.{draft_zone, Workable, largest_listed, largest_predecessor}
 use Rattle.cells.specs.Settling.{Ready, Consistent}
 use Rattle.cells.specs.Sifted.{sifted, Lists}
-use Rattle.cells.proofs.Grid.{length_matched, length-picked, length_delayed, length-added, times_keeps}
+use Rattle.cells.proofs.Grid.{length_matched, length-picked, length-added}
 use Rattle.cells.proofs.Operations.{Rising, matched_is, picked_is, kept_rises, kept_few, added_old, added_row, added_column, added_self, delayed_row, delayed_first, delayed_least, least_zero, least_below, least_reached}
 use Rattle.cells.proofs.Sifted.{sifted-others, sifted_among, sifted_inside, sifted_few, lists_count, lists_at}
-use Rattle.cells.proofs.Steps.{Good, normal_good, good_same, good_normal, DelayedTo, delay_good, delay_normal, matches_below, matches_length, narrow_still, narrow_sized, narrow_same, narrow_settled, Added, AddedOne, Grown, grown_added, fired_back, firing_picked, firing_points, firing_predecessor, firing_good}
+use Rattle.cells.proofs.Steps.{Good, normal_good, DelayedTo, delay_good, delay_normal, matches_below, matches_length, narrow_still, narrow_sized, narrow_same, narrow_settled, Added, Grown, grown_added, fired_back, firing_picked, firing_predecessor, firing_good}
 
 every_below : (n : ℕ) (xs : List ℕ) (i : ℕ) → 0 < n → Every (λ d. d < n) xs → get_or xs i 0 < n
 every_below n [] i some h = some

@@ -1,16 +1,16 @@
 -- Rounds of elimination over a list of pivots, one after the other. Assumes nothing.
-use Rattle.std.proofs.Common.{◌≡◌, ℕ, zero, suc, ◌+◌, ◌*◌, ◌^◌, ◌<◌, ◌≤◌, Bool, true, false, cond, not, ◌||◌, eqb, ◌⊎◌, List, [], ◌∷◌, length, get_or, take, sym, refl, ap, ◌∙◌, subst, inl, inr, ⊎_elim, arith}
+use Rattle.std.proofs.Common.{◌≡◌, ℕ, zero, suc, ◌+◌, ◌*◌, ◌^◌, ◌<◌, ◌≤◌, Bool, true, false, not, ◌||◌, eqb, List, [], ◌∷◌, length, get_or, take, sym, refl, ap, ◌∙◌, subst, ⊎_elim, arith}
 use native.Mathlib.Nat.{pow-le-pow_right}
 use Rattle.std.proofs.lemmas.List.{take_all}
-use Rattle.std.proofs.lemmas.Bool.{cases_Bool, cond-true, cond-false, eq-eqb, true≢false, false≢true}
+use Rattle.std.proofs.lemmas.Bool.{cases_Bool, false≢true}
 use Rattle.bounds.specs.Kinds.{Kind, largest_size}
-use Rattle.walks.specs.Walks.{Inside, Negative}
+use Rattle.walks.specs.Walks.{Inside}
 use Rattle.walks.specs.NormalForms.{most_points, largest_entry}
 use Rattle.walks.proofs.Closed.{Same, relaxed}
 use Rattle.walks.proofs.Rounds.{Progress, progress_none, progress_round, progress_sized, progress_negative, progress_normal}
 use Rattle.zones.specs.Predecessors.{among}
 use Rattle.cells.specs.Cells.{in_draft, relaxed_cells}
-use Rattle.cells.specs.Settling.{Ready, Answered, Settles}
+use Rattle.cells.specs.Settling.{Ready, Settles}
 use Rattle.cells.proofs.Grid.{length-relaxed}
 use Rattle.cells.proofs.Operations.{relaxed_is}
 

@@ -2,7 +2,7 @@
 --     draft     169 cells for a zone of up to 12 tokens that is worked on, (j,i) at 13 j + i
 --     page      81 cells for a zone of up to 8 tokens, (j,i) at 9 j + i
 -- Every operation is a function of all cells, so it says what every cell then holds. Assumes nothing.
-use Rattle.std.specs.Prelude.{ℕ, zero, suc, ◌+◌, ◌*◌, Bool, true, cond, List, [], ◌∷◌, length, ◌==◌, slice_index, slice_index_or, slice_set}
+use Rattle.std.specs.Prelude.{ℕ, zero, suc, ◌+◌, ◌*◌, cond, List, length, ◌==◌, slice_index, slice_index_or, slice_set}
 use Rattle.bounds.specs.Kinds.{Kind}
 use Rattle.bounds.specs.declared.range.Range.{Range}
 use Rattle.bounds.specs.Ranges.{from_zero}

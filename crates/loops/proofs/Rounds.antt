@@ -1,19 +1,16 @@
 -- Adding up a loop line by line, and what the sum says of its timings. Assumes nothing.
-use Rattle.std.proofs.Common.{◌≡◌, ℕ, zero, suc, ◌+◌, ◌-◌, ◌*◌, ◌^◌, ◌<◌, ◌≤◌, Bool, true, false, cond, ◌||◌, eqb, leb, ◌⊎◌, List, [], ◌∷◌, ◌++◌, map, length, ℤ, pos, ◌+ℤ◌, ◌*ℤ◌, neg_ℤ, nat_abs, Ok, Err, Result, sym, refl, ap, ◌∙◌, subst, inl, inr, ⊎_elim, append_assoc, add-mul, mul-add, arith}
-use borrow.Author.Differences.{ints}
-use lib.IntN.{+ℤ_assoc, +ℤ_idl, +ℤ_idr, +ℤ_comm}
-use lib.Signed.{le_z, lt_z}
+use Rattle.std.proofs.Common.{◌≡◌, ℕ, ◌+◌, ◌<◌, ◌≤◌, Bool, true, false, cond, eqb, ◌⊎◌, List, [], ◌∷◌, ◌++◌, map, length, ℤ, pos, ◌+ℤ◌, Ok, Err, Result, sym, refl, ap, ◌∙◌, inl, inr, ⊎_elim, append_assoc, arith}
+use lib.IntN.{+ℤ_assoc, +ℤ_idl, +ℤ_idr}
 use mathlib.Core.List.{map-append}
-use Rattle.std.proofs.lemmas.List.{append-nil, length_push, length-append}
-use Rattle.std.proofs.lemmas.Bool.{cases_Bool, true≢false, false≢true}
-use Rattle.bounds.specs.Kinds.{Kind, Named, made, largest_number, largest_size, number_allows, place}
+use Rattle.std.proofs.lemmas.List.{length_push}
+use Rattle.std.proofs.lemmas.Bool.{true≢false}
+use Rattle.bounds.specs.Kinds.{Kind}
 use Rattle.loops.specs.declared.judging.BadLine.{BadLine}
-use Rattle.loops.specs.declared.judging.Verdict.{Verdict}
 use Rattle.loops.specs.declared.line.LineFault.{LineFault}
 use Rattle.loops.specs.declared.line.LineFault.TheVariants.{TooManyLines}
 use Rattle.loops.specs.Lines.{lines, grown, first_line, after_line}
 use Rattle.loops.specs.Readings.{line_bound}
-use Rattle.loops.specs.Loops.{total_after, total, with_bound, added, Allowed, Meets, Summed, Faulty, Judged, most_lines}
+use Rattle.loops.specs.Loops.{total_after, total, with_bound, added, Allowed, Faulty, most_lines}
 
 -- ---- lines
 step_line : (b : ℕ) (text : List ℕ) (t : Bool) → grown b (lines text) ≡ (b ∷ first_line text) ∷ lines (after_line text) → cond t ([] ∷ lines text) (grown b (lines text)) ≡ cond t [] (b ∷ first_line text) ∷ lines (cond t text (after_line text))

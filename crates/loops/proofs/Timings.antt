@@ -1,12 +1,12 @@
 -- Differences that meet a loop whose bounds do not add up to less than zero. Assumes nothing.
-use Rattle.std.proofs.Common.{◌≡◌, ℕ, zero, suc, ◌+◌, ◌*◌, ◌^◌, ◌<◌, ◌≤◌, Bool, true, false, cond, not, ◌&&◌, ◌||◌, eqb, leb, ◌⊎◌, List, [], ◌∷◌, ◌++◌, map, length, ℤ, pos, ◌+ℤ◌, ◌-ℤ◌, ◌*ℤ◌, neg_ℤ, nat_abs, Some, None, Ok, Err, codes, Option, Result, sym, refl, ap, ◌∙◌, inl, inr, ⊎_elim, mul-le-mul_left, mul-add, arith}
+use Rattle.std.proofs.Common.{◌≡◌, ℕ, ◌+◌, ◌*◌, ◌<◌, ◌≤◌, Bool, true, false, cond, not, ◌&&◌, ◌||◌, eqb, leb, ◌⊎◌, List, [], ◌∷◌, ◌++◌, map, length, ℤ, pos, ◌+ℤ◌, ◌-ℤ◌, ◌*ℤ◌, neg_ℤ, nat_abs, Some, None, Ok, Err, codes, Option, Result, sym, refl, ap, ◌∙◌, inl, inr, ⊎_elim, mul-le-mul_left, mul-add, arith}
 use borrow.Author.Differences.{ints, up, down}
 use lib.IntN.{+ℤ_assoc, +ℤ_idl, +ℤ_idr}
-use lib.Signed.{le_z, lt_z}
+use lib.Signed.{le_z}
 use Rattle.std.proofs.lemmas.List.{append-nil, nil_from_length}
 use Rattle.std.proofs.lemmas.Bool.{le-leb, leb-true, cond-true, true≢false, false≢true}
 use Rattle.std.specs.Str.{bytes_eq}
-use Rattle.bounds.specs.Kinds.{Kind, Named, made, largest_number, largest_size, number_allows, place}
+use Rattle.bounds.specs.Kinds.{Kind, Named, largest_number, largest_size, number_allows, place}
 use Rattle.bounds.specs.declared.made.MakeError.TheVariants.{OutsideLimits, MarkNotTaken}
 use Rattle.loops.specs.declared.line.LineFault.{LineFault}
 use Rattle.loops.specs.declared.judging.Verdict.{Verdict}

@@ -2,7 +2,7 @@
 --     meets       differences, one for each bound, that the bounds allow on grid k and that add up to 0
 --     verdict     the sum of the bounds, and whether any differences on any grid meet them
 -- Assumes nothing.
-use Rattle.std.specs.Prelude.{◌≡◌, ℕ, ◌+◌, ◌^◌, ◌<◌, ◌≤◌, Bool, true, false, ◌⊎◌, List, [], ◌∷◌, ◌++◌, map, length, ℤ, pos, ◌+ℤ◌, Ok, Err, Result}
+use Rattle.std.specs.Prelude.{◌≡◌, ℕ, ◌+◌, ◌^◌, ◌<◌, ◌≤◌, true, false, ◌⊎◌, List, [], ◌∷◌, ◌++◌, map, length, ℤ, pos, ◌+ℤ◌, Ok, Err, Result}
 use Rattle.bounds.specs.Kinds.{Kind}
 use Rattle.loops.specs.Lines.{lines}
 use Rattle.loops.specs.Readings.{line_bound}

@@ -2,7 +2,6 @@
 use Rattle.std.specs.Prelude.{ℕ, Bool, true, false, cond, List, [], ◌∷◌, ℤ, Some, None, Ok, Err, codes, Option, Result, ◌==◌}
 use Rattle.bounds.specs.Kinds.{Kind, made}
 use Rattle.bounds.specs.declared.made.MakeError.{MakeError}
-use Rattle.bounds.specs.declared.made.MakeError.TheVariants.{OutsideLimits, MarkNotTaken}
 use Rattle.std.specs.Str.{bytes_eq}
 use Rattle.loops.specs.Lines.{integer}
 use Rattle.loops.specs.declared.line.LineFault.{LineFault}

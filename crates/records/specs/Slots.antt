@@ -9,7 +9,7 @@ use Rattle.records.specs.declared.header.NetHeader.{NetHeader}
 use Rattle.records.specs.declared.slot.End.{End}
 use Rattle.records.specs.declared.slot.Slot.{Slot}
 
--- place 6 bits, lower mark 1, lower end 15, no_limit flag 1, upper mark 1, upper end 15, spare 1
+-- place 6 bits, lower mark 1, lower end 15, no-limit flag 1, upper mark 1, upper end 15, spare 1
 abbrev pub slot_of : List ℕ → Slot
 slot_of bytes =
     record {

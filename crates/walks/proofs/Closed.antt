@@ -1,5 +1,5 @@
 -- Matrices in which every two legs are no shorter than one. Assumes nothing.
-use Rattle.std.proofs.Common.{◌≡◌, ℕ, ◌<◌, ◌≤◌, true}
+use Rattle.std.proofs.Common.{◌≡◌, ℕ, ◌<◌, true}
 use Rattle.bounds.specs.Kinds.{Kind}
 use Rattle.walks.specs.Walks.{Matrix, lesser, Still, Settled}
 

@@ -1,8 +1,8 @@
 -- What holds of every normal form, over every kind of bounds.
 -- Assumes nothing.
-use Rattle.std.specs.Prelude.{◌≡◌, ℕ, ◌^◌, ◌<◌, ◌≤◌, true, ◌⊎◌, ℤ}
+use Rattle.std.specs.Prelude.{◌≡◌, ℕ, ◌^◌, ◌<◌, ◌≤◌, ◌⊎◌, ℤ}
 use Rattle.bounds.specs.Kinds.{Kind}
-use Rattle.walks.specs.Walks.{Matrix, Walk, Negative, NormalForm, Sized, Still, Allowed}
+use Rattle.walks.specs.Walks.{Matrix, Negative, NormalForm, Sized, Still, Allowed}
 
 -- the points of the largest predecessor: a clock and twelve tokens
 abbrev pub most_points : ℕ

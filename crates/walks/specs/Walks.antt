@@ -4,7 +4,7 @@
 --     normal form   at (j,i) the least sum over the walks from j to i of at most n legs
 --     negative      some closed walk of at most n legs sums below zero
 -- Assumes nothing.
-use Rattle.std.specs.Prelude.{◌≡◌, ℕ, ◌<◌, ◌≤◌, Bool, true, false, cond, List, [], ◌∷◌, length, ℤ, ◌-ℤ◌, ◌==◌}
+use Rattle.std.specs.Prelude.{◌≡◌, ℕ, ◌<◌, ◌≤◌, true, false, cond, List, [], ◌∷◌, length, ℤ, ◌-ℤ◌, ◌==◌}
 use Rattle.bounds.specs.Kinds.{Kind}
 
 abbrev pub Matrix : Type 0 → Type 0

@@ -10,7 +10,7 @@ use Rattle.zones.specs.Predecessors.{among, stands, matches}
 use Rattle.zones.specs.Vouching.{Distinct, Partner}
 use Rattle.zones.specs.Zones.{age_of}
 use Rattle.zones.proofs.Bags.{Taken, Without, InFront, Behind, taken_back, taken_append, taken_map}
-use Rattle.zones.proofs.Bags.Taken.{here, there}
+use Rattle.zones.proofs.Bags.Taken.{here}
 use Rattle.zones.proofs.Chosen.{token_of, age_token, place_token, without, without_none, without_absent, without_taken, taken_among, taken_keeps, taken_distinct, taken_gone, taken_every, taken_has, zero_absent}
 
 -- every matched token has an age in its arc's range

@@ -1,6 +1,5 @@
 -- Every marking of a zone is one of the zone that vouches for it. Assumes nothing.
 use Rattle.std.proofs.Common.{◌≡◌, ℕ, zero, suc, ◌<◌, ◌≤◌, List, ◌∷◌, ◌++◌, map, length, ◌-ℤ◌, sym, ap, ◌∙◌, subst, arith}
-use borrow.Author.Differences.{up}
 use Rattle.std.proofs.lemmas.List.{append_assoc}
 use Rattle.bounds.specs.Kinds.{Kind}
 use Rattle.nets.specs.Markings.{Marking}

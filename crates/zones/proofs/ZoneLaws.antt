@@ -1,6 +1,5 @@
 -- What each step means for markings, over every kind. Assumes nothing.
 use Rattle.bounds.specs.Kinds.{Kind}
-use Rattle.walks.proofs.NormalForms.{to_form}
 use Rattle.zones.specs.Safety.{ZoneLaws}
 use Rattle.zones.proofs.Forms.{form_satisfied, form_satisfies, none_satisfies}
 use Rattle.zones.proofs.Vouched.{vouching_satisfies}

@@ -2,7 +2,7 @@
 --     zone       tokens, numbered from 1, with a place each, and bounds on the differences of their ages
 --     point      a token, or 0: a clock fixed at age 0
 -- Assumes nothing.
-use Rattle.std.specs.Prelude.{◌≡◌, ℕ, zero, suc, ◌<◌, ◌≤◌, true, List, [], ◌∷◌, ◌++◌, map, length, ℤ, pos, slice_index_or}
+use Rattle.std.specs.Prelude.{◌≡◌, ℕ, zero, suc, List, ◌++◌, map, length, ℤ, pos, slice_index_or}
 use Rattle.bounds.specs.Kinds.{Kind}
 use Rattle.nets.specs.Markings.{Token, Marking, Permuted}
 use Rattle.walks.specs.Walks.{Matrix, counted, Negative, NormalForm, Sized, Still, Allowed}

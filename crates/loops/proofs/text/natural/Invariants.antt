@@ -1,4 +1,4 @@
-use Rattle.std.proofs.Common.{◌<◌, ◌≤◌, length}
+use Rattle.std.proofs.Common.{◌≤◌}
 use Rattle.loops.proofs.Scans.{Read}
 use Rattle.loops.proofs.text.natural.Given as goal
 

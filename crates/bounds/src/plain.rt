@@ -1,7 +1,11 @@
 // Plain bounds: a whole number, or no limit.
-ghost use Rattle.bounds.specs.PlainKind.{plain_kind, plain_limit};
+ghost use Rattle.bounds.specs.Limits.{limit_strict};
+ghost use Rattle.bounds.specs.Limits.Limit.{number, unlimited};
+ghost use Rattle.bounds.specs.Codings.{Held};
+ghost use Rattle.std.proofs.lemmas.Bool.{false≢true};
+ghost use Rattle.bounds.specs.PlainKind.{kind_of_plain, plain_limit, plain_of};
 ghost use Rattle.bounds.specs.Texts.{limit_text};
-ghost use Rattle.std.specs.Prelude.{Some};
+ghost use Rattle.std.specs.Prelude.{◌≡◌, true, false, Some, None, refl};
 
 use crate::bound::Bound;
 use crate::capped::capped_sum;
@@ -14,7 +18,18 @@ pub struct PlainBound {
 }
 
 impl Bound for PlainBound {
-    ghost kind = { plain_kind };
+    // These facts have names in proofs/PlainLaws.antt; a ghost member cites specs/ alone, so they are shown here once more.
+    ghost kind = { kind_of_plain (record {
+      back = elim [ Some c ↦ refl | None ↦ refl ];
+      reads = elim [
+        | number c s ↦ elim s as (λ s. Held false (number c s) → plain_limit (plain_of (number c s)) ≡ number c s) [
+          | true ↦ λ h. absurd (false≢true (h.takes refl))
+          | false ↦ λ h. refl
+        ]
+        | unlimited ↦ λ h. refl
+      ];
+      marked = elim [ Some c ↦ λ e. e | None ↦ λ e. e ];
+    }) };
 
     fn zero() -> PlainBound {
         PlainBound { limit: Some(0) }

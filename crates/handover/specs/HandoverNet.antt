@@ -5,7 +5,7 @@ use Rattle.std.proofs.Common.{arith, inr, sym, ap, ◌∙◌}
 use Rattle.std.proofs.lemmas.Int.{ints}
 use Rattle.std.proofs.lemmas.Bool.{false≢true, le-leb}
 use Rattle.bounds.specs.Kinds.{Kind, Named, largest_size}
-use Rattle.bounds.specs.PlainKind.{plain_kind}
+use Rattle.bounds.proofs.PlainLaws.{plain_kind}
 use Rattle.bounds.specs.declared.plain.PlainBound.{PlainBound}
 use Rattle.bounds.specs.declared.range.Range.{Range}
 use Rattle.nets.specs.Nets.{Transition, Net, RangeLimits, Limits, largest_end}

@@ -1,6 +1,6 @@
 // The line as a net store: places 0 and 1, and one transition, which is number 1 and has one arc on each side.
 ghost use Rattle.std.specs.Prelude.{◌≡◌, ◌≤◌, false, unsigned_abs};
-ghost use Rattle.bounds.specs.PlainKind.{plain_kind};
+ghost use Rattle.bounds.proofs.PlainLaws.{plain_kind};
 ghost use Rattle.handover.specs.HandoverNet.{handover_net};
 
 use crate::Handover;

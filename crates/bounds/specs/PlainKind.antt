@@ -1,7 +1,6 @@
 -- What plain bounds mean: a number without a mark, or no limit.
 -- Assumes nothing.
-use Rattle.std.specs.Prelude.{◌≡◌, true, false, ℤ, Some, None, Option, refl}
-use Rattle.std.proofs.lemmas.Bool.{false≢true}
+use Rattle.std.specs.Prelude.{◌≡◌, true, false, ℤ, Some, None, Option}
 use Rattle.bounds.specs.Kinds.{Kind}
 use Rattle.bounds.specs.Limits.{Limit, limit_strict}
 use Rattle.bounds.specs.Limits.Limit.{number, unlimited}

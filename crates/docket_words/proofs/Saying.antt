@@ -13,7 +13,7 @@ use Rattle.pages.specs.declared.tokens.Tokens.{Tokens}
 use Rattle.records.specs.Parts.{Parted}
 use Rattle.records.specs.declared.fault.Missing.{Missing}
 use Rattle.records.specs.declared.reader.Part.{Part}
-use Rattle.docket_words.specs.Initial.{placed, head_line, refusal_line}
+use Rattle.docket_words.specs.Initial.{placed, head_line}
 use Rattle.docket_words.specs.Told.{SaidAfter, ZoneTold, ZonesTold, MarkingTold, told_after, DocketTold}
 use Rattle.docket_words.specs.Written.{ZoneRead, ZoneWritten}
 

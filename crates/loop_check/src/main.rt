@@ -1,8 +1,10 @@
 // Reads the bounds of a closed loop from standard input, one to a line, and prints their sum and the verdict.
 #![tactic(auto)]
 
+use bounds::MarkedBound;
 use loops::judge;
 use std::io::Read;
+use std::process::ExitCode;
 
 fn read_input(rt: &HostRuntime) -> anyhow::Result<Vec<u8>> {
     let mut text = Vec::new(rt.alloc());
@@ -10,16 +12,16 @@ fn read_input(rt: &HostRuntime) -> anyhow::Result<Vec<u8>> {
     Ok(text)
 }
 
-fn main(rt: HostRuntime) -> anyhow::Result<()> {
+fn main(rt: HostRuntime) -> anyhow::Result<ExitCode> {
     let text = read_input(&rt)?;
-    match judge::<bounds::marked::MarkedBound>(&text) {
+    match judge::<MarkedBound>(&text) {
         Ok(verdict) => {
             rt.println(verdict)?;
-            Ok(())
+            Ok(ExitCode::SUCCESS)
         }
         Err(bad) => {
             rt.eprintln(bad)?;
-            Err(bad.into())
+            Ok(ExitCode::FAILURE)
         }
     }
 }

@@ -3,7 +3,7 @@ use Rattle.std.proofs.Common.{◌≡◌, ℕ, zero, suc, ◌+◌, ◌-◌, ◌<�
 use Rattle.bounds.specs.Kinds.{Kind}
 use Rattle.cells.specs.Cells.{in_draft, matched_cells, picked_cells, input_cells, delayed_cells}
 use Rattle.cells.specs.Drafts.{draft_zone, Workable}
-use Rattle.cells.specs.Settling.{Answered, Consistent, Settles}
+use Rattle.cells.specs.Settling.{Answered, Settles}
 use Rattle.cells.specs.Sifted.{sifted, Lists}
 use Rattle.cells.proofs.Composed.{delay_before, delay_small, firing_ready, firing_void, firing_before, firing_small}
 use Rattle.cells.proofs.Grid.{length_matched, length-picked, length_inputs, length_delayed}

@@ -1,13 +1,9 @@
 -- One more step of a counted loop. Assumes nothing.
-use Rattle.std.proofs.Common.{◌≡◌, ℕ, zero, suc, ◌+◌, ◌-◌, ◌*◌, ◌≤◌, Bool, true, false, cond, List, get_or, set, sym, refl, ap, ◌∙◌, arith}
+use Rattle.std.proofs.Common.{◌≡◌, ℕ, zero, suc, ◌+◌, ◌-◌, ◌≤◌, Bool, true, false, List, get_or, refl, ap, ◌∙◌, arith}
 use Rattle.nets.specs.Nets.{numbered}
 use mathlib.Core.Bool.{beq}
 use Rattle.cells.specs.Sifted.{agrees}
-use Rattle.walks.specs.Walks.{lesser}
-use Rattle.std.proofs.lemmas.List.{set-get_or}
-use Rattle.std.proofs.lemmas.Bool.{cond-true}
-use Rattle.bounds.specs.Kinds.{Kind}
-use Rattle.cells.specs.Cells.{times, in_draft, lowered}
+use Rattle.cells.specs.Cells.{times}
 
 pub times_more : {X : Type 0} (n : ℕ) (step : ℕ → X → X) (x : X) → step n (times n step x) ≡ times (n + 1) step x
 times_more n step x = let e : suc n ≡ n + 1 = omega arith in ap (λ m. times m step x) e

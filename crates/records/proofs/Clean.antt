@@ -1,7 +1,7 @@
 -- What holds of bytes without a fault. Assumes nothing.
-use Rattle.std.proofs.Common.{◌≡◌, ℕ, zero, suc, ◌+◌, ◌-◌, ◌*◌, ◌<◌, ◌≤◌, min, Bool, true, false, cond, not, ◌&&◌, ◌||◌, eqb, ltb, leb, ◌⊎◌, List, [], ◌∷◌, length, take, drop, is_some, Some, None, Option, sym, refl, ap, ◌∙◌, ⊎_elim, arith, length-drop, length-take}
+use Rattle.std.proofs.Common.{◌≡◌, ℕ, zero, suc, ◌+◌, ◌-◌, ◌*◌, ◌<◌, ◌≤◌, min, Bool, true, false, cond, not, ◌&&◌, eqb, ltb, leb, List, [], ◌∷◌, length, take, drop, is_some, Some, None, Option, sym, refl, ap, ◌∙◌, arith, length-drop, length-take}
 use Rattle.std.proofs.lemmas.List.{drop-drop}
-use Rattle.std.proofs.lemmas.Bool.{true≢false, false≢true, ltb-false, or_parts, and_parts, and_left, and_right, and_from, leb-true, lt-leb, le-leb, cond-true, cond-false}
+use Rattle.std.proofs.lemmas.Bool.{false≢true, ltb-false, or_parts, and_parts, and_right, leb-true, lt-leb, cond-true, cond-false}
 use Rattle.records.specs.Bits.{field}
 use Rattle.records.specs.NetBytes.{transition_bytes, has_transition, side_count, side_start, arcs_at, slot_at}
 use Rattle.records.specs.NetRecords.{first_of, in_order, header_of, header_has, at_record, or_else, sized, header_fault, transition_refusal, transition_fault, transitions_fault, net_fault, sound, no_net, transition_record, record_has, counts_have, some_slot_has}

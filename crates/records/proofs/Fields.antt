@@ -1,5 +1,5 @@
 -- Fields of bits by quotients and remainders of their bytes. Assumes nothing.
-use Rattle.std.proofs.Common.{◌≡◌, ℕ, zero, suc, ◌+◌, ◌-◌, ◌*◌, ◌/◌, ◌%◌, ◌^◌, ◌<◌, ◌≤◌, Bool, eqb, List, get_or, take, drop, sym, refl, ap, ◌∙◌, add-zero, add-suc, mul_assoc, mul_comm, pow-suc, arith}
+use Rattle.std.proofs.Common.{◌≡◌, ℕ, zero, suc, ◌+◌, ◌-◌, ◌*◌, ◌/◌, ◌%◌, ◌^◌, ◌<◌, ◌≤◌, eqb, List, get_or, take, drop, sym, ap, ◌∙◌, add-zero, add-suc, mul_assoc, mul_comm, pow-suc, arith}
 use Rattle.std.proofs.lemmas.Nat.{mod-pow-add, shr-shr}
 use Rattle.std.proofs.lemmas.List.{get_or-take}
 use Rattle.records.specs.Bits.{bit, field, flag}

@@ -1,10 +1,10 @@
 -- The arcs of the net that bytes say, by the slots that lie in them. Assumes nothing.
-use Rattle.std.proofs.Common.{◌≡◌, ℕ, zero, suc, ◌+◌, ◌-◌, ◌*◌, ◌<◌, ◌≤◌, min, Bool, true, false, cond, ◌&&◌, leb, ◌⊎◌, List, [], ◌∷◌, map, length, get_or, take, drop, Some, None, Option, sym, refl, ap, ◌∙◌, inl, inr, ⊎_elim, arith, length-drop, length-take}
+use Rattle.std.proofs.Common.{◌≡◌, ℕ, zero, suc, ◌+◌, ◌-◌, ◌*◌, ◌<◌, ◌≤◌, min, Bool, true, false, cond, ◌&&◌, leb, List, [], map, length, get_or, take, drop, Some, None, Option, sym, refl, ap, ◌∙◌, ⊎_elim, arith, length-drop, length-take}
 use Rattle.std.proofs.lemmas.List.{drop-drop, get_or-take, get_or-drop, get_or_past, get_or-map, length-map}
 use Rattle.std.proofs.lemmas.Bool.{cases_Bool, and_parts, and_cases, and_from, and_right, leb-true, leb-false, le-leb, cond-true, cond-false, true≢false}
 use Rattle.bounds.specs.Kinds.{Kind}
 use Rattle.bounds.specs.Ranges.{from_zero}
-use Rattle.nets.specs.Nets.{Arc, Transition, Net, numbered, transition_of, side_of, arcs_of, arc_of}
+use Rattle.nets.specs.Nets.{Arc, Transition, numbered, transition_of, side_of, arcs_of, arc_of}
 use Rattle.nets.specs.declared.side.Side.{Side}
 use Rattle.nets.specs.declared.side.Side.TheVariants.{Input, Output}
 use Rattle.records.specs.NetBytes.{slot_arc, record_transition, transitions_of, net_of, transition_bytes, has_transition, side_count, side_start, arcs_at, slot_at}

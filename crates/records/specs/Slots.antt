@@ -1,5 +1,5 @@
 -- An arc slot: five bytes that say a place and a range. Assumes nothing.
-use Rattle.std.specs.Prelude.{ℕ, zero, suc, Bool, true, false, cond, not, ◌&&◌, ◌||◌, List, [], ◌∷◌, take, drop, pos, neg_ℤ, ◌==◌, nat_le}
+use Rattle.std.specs.Prelude.{ℕ, zero, suc, Bool, false, cond, not, ◌&&◌, ◌||◌, List, [], ◌∷◌, take, drop, pos, neg_ℤ, ◌==◌, nat_le}
 use Rattle.bounds.specs.Limits.{Limit, limit_at_most, limit_sum}
 use Rattle.bounds.specs.Limits.Limit.{number, unlimited}
 use Rattle.records.specs.Bits.{field, flag}

@@ -1,5 +1,5 @@
 use Rattle.std.proofs.Common.{◌≡◌, cond, eqb}
-use Rattle.cells.specs.Cells.{delayed_cells, times, put, column_least}
+use Rattle.cells.specs.Cells.{times, put, column_least}
 use Rattle.pages.proofs.draft.delay_back.Given as goal
 
 abbrev pub invariant-loop-i : goal.invariant-loop-i

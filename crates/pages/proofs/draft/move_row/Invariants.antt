@@ -1,5 +1,4 @@
 use Rattle.std.proofs.Common.{◌≡◌, get_or}
-use Rattle.cells.specs.Cells.{moved_row}
 use Rattle.pages.proofs.draft.move_row.Given as goal
 use Rattle.cells.specs.Cells.{times, put, in_draft}
 

@@ -1,5 +1,5 @@
 use Rattle.std.proofs.Common.{◌≡◌}
-use Rattle.cells.specs.Cells.{relaxed_row, times, lowered, in_draft}
+use Rattle.cells.specs.Cells.{times, lowered, in_draft}
 use Rattle.pages.proofs.draft.relax_row.Given as goal
 
 abbrev pub invariant-loop-i : goal.invariant-loop-i

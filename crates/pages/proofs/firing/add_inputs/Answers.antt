@@ -1,4 +1,4 @@
-use Rattle.std.proofs.Common.{◌≡◌, ◌+◌, ap, ◌∙◌}
+use Rattle.std.proofs.Common.{◌+◌, ap, ◌∙◌}
 use Rattle.cells.specs.Cells.{added_cells}
 use Rattle.zones.proofs.Arcs.{arc_number}
 use Rattle.pages.proofs.Steps.{one_more}

@@ -1,10 +1,6 @@
-use Rattle.std.proofs.Common.{◌≡◌, ◌-◌, ◌≤◌, false, List, map, length, take, drop, ap, ◌∙◌, subst, arith}
-use Rattle.cells.specs.Sifted.{sifted}
-use Rattle.cells.proofs.Sifted.{sifted_few}
-use Rattle.nets.specs.Nets.{transition_of, numbered}
+use Rattle.nets.specs.Nets.{transition_of}
 use Rattle.zones.proofs.Arcs.{transition_limits}
-use Rattle.pages.specs.Tokens.{Held}
-use Rattle.pages.proofs.Backwards.{replaced_all, behind_clock, held_behind, held_few}
+use Rattle.pages.proofs.Backwards.{replaced_all, held_behind, held_few}
 use Rattle.pages.proofs.firing.replace.Goals as goal
 
 pub with_inputs-requires : goal.with_inputs-requires

@@ -1,4 +1,4 @@
-use Rattle.std.proofs.Common.{◌≡◌, ◌+◌, ◌<◌, sym, ap, ◌∙◌, arith}
+use Rattle.std.proofs.Common.{◌<◌, ap, ◌∙◌, arith}
 use Rattle.nets.specs.Nets.{arcs_of}
 use Rattle.nets.specs.declared.side.Side.TheVariants.{Input}
 use Rattle.zones.proofs.Arcs.{arc_number}

@@ -1,4 +1,4 @@
-use Rattle.std.proofs.Common.{◌≡◌, ℕ, ◌+◌, ◌≤◌, List, ◌++◌, map, take}
+use Rattle.std.proofs.Common.{◌≡◌, ℕ, ◌+◌, List, ◌++◌, map, take}
 use Rattle.nets.specs.Nets.{arcs_of}
 use Rattle.nets.specs.declared.side.Side.TheVariants.{Input}
 use Rattle.pages.specs.Tokens.{Held}

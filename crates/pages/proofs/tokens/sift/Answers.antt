@@ -1,4 +1,4 @@
-use Rattle.std.proofs.Common.{◌≡◌, ◌+◌, ◌<◌, ◌∷◌, set, sym, ap, ◌∙◌, subst₂, arith}
+use Rattle.std.proofs.Common.{◌+◌, ◌<◌, ◌∷◌, set, sym, ap, ◌∙◌, subst₂, arith}
 use Rattle.cells.specs.Sifted.{sifted, Lists, agrees}
 use Rattle.cells.proofs.Sifted.{sifted_yes, sifted_no}
 use Rattle.pages.proofs.Steps.{beq_agrees}

@@ -1,4 +1,4 @@
-use Rattle.std.proofs.Common.{◌≡◌, ◌<◌, arith}
+use Rattle.std.proofs.Common.{◌<◌, arith}
 use Rattle.nets.specs.Nets.{numbered}
 use Rattle.pages.proofs.Held.{held_first, held_more, held_all}
 use Rattle.pages.proofs.tokens.some_tokens.Goals as goal

@@ -1,6 +1,6 @@
 use Rattle.std.proofs.Common.{◌<◌, arith}
 use Rattle.entries.specs.ZoneRecords.{place_at}
-use Rattle.reading.proofs.Places.{places_count, places_more}
+use Rattle.reading.proofs.Places.{places_more}
 use Rattle.reading.proofs.form.zone_places.Goals as goal
 
 pub loop-t-preserved : goal.loop-t-preserved

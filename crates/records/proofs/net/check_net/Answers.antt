@@ -1,4 +1,4 @@
-use Rattle.std.proofs.Common.{◌+◌, drop, sym, refl, ap, ◌∙◌, subst}
+use Rattle.std.proofs.Common.{◌+◌, drop, sym, refl, subst}
 use Rattle.std.proofs.lemmas.Result.{err_from_is_err_and}
 use Rattle.records.proofs.Walks.{Walked, tested_ok, tested_err, tested_none, tested_some, walked_none, walked_more, walked_fault, walked_all, header_clean}
 use Rattle.records.proofs.net.check_net.Goals as goal

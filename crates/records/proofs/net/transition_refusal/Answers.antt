@@ -1,4 +1,4 @@
-use Rattle.std.proofs.Common.{ap, ◌∙◌, rules}
+use Rattle.std.proofs.Common.{ap, ◌∙◌}
 use Rattle.records.specs.NetRecords.{transition_refusal, record_has, first_of, in_order}
 use Rattle.records.proofs.net.transition_refusal.Goals as goal
 

@@ -1,5 +1,5 @@
-use Rattle.std.proofs.Common.{◌≡◌, ℕ, true, List, sym, refl, ap, subst, Bor}
-use Rattle.records.specs.NetRecords.{sound, no_net}
+use Rattle.std.proofs.Common.{◌≡◌, ℕ, true, List, sym, ap, subst, Bor}
+use Rattle.records.specs.NetRecords.{sound}
 use Rattle.records.proofs.Clean.{no_net_sound}
 use Rattle.records.proofs.packed.PackedNet.new.Goals as goal
 use Rattle.records.proofs.packed.PackedNet.new.Goals.{then-is_sound, else-is_sound}
@@ -13,8 +13,8 @@ held p = p.0.now
 pub invariant_of-result : goal.invariant_of-result
 invariant_of-result c = record {
   tested =
-    elim c.if-is_sound.branch [
-      | then-is_sound w ↦ subst Tested (sym (ap held w.result-is)) (sym w.if-is_sound.ensures)
-      | else-is_sound w ↦ subst Tested (sym (ap held w.result-is)) no_net_sound
-    ];
+      elim c.if-is_sound.branch [
+        | then-is_sound w ↦ subst Tested (sym (ap held w.result-is)) (sym w.if-is_sound.ensures)
+        | else-is_sound w ↦ subst Tested (sym (ap held w.result-is)) no_net_sound
+      ];
 }

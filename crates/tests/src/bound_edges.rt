@@ -1,6 +1,8 @@
 // Edges of the two kinds of bounds.
 use bounds::{Bound, MakeError};
+#[cfg(test)]
 use std::process::Abort;
+#[cfg(test)]
 use std::test::Fail;
 
 // 2^n, by doubling 1.
@@ -37,6 +39,7 @@ fn takes<B: Bound>(number: i32, strict: bool) -> Option<MakeError> {
 }
 
 // What every kind does at the edges.
+#[cfg(test)]
 fn check_edges<B: Bound>(rt: &impl Abort) -> Result<(), Fail> {
     assert!(rt; takes::<B>(262_143, false).is_none());
     assert!(rt; takes::<B>(-262_143, false).is_none());
@@ -57,6 +60,7 @@ fn check_edges<B: Bound>(rt: &impl Abort) -> Result<(), Fail> {
 }
 
 // No limit, and 3 with -3, in every kind.
+#[cfg(test)]
 fn check_sums<B: Bound>(rt: &impl Abort) -> Result<(), Fail> {
     let three = B::make(3, false)?;
     let sum = three.sum(B::make(-3, false)?);
@@ -70,6 +74,7 @@ fn check_sums<B: Bound>(rt: &impl Abort) -> Result<(), Fail> {
 }
 
 // Strict bounds, where a kind has them: 3 strict stands just below 3, and 3 strict with -3 below zero.
+#[cfg(test)]
 fn check_marks<B: Bound>(rt: &impl Abort) -> Result<(), Fail> {
     assert!(rt; takes::<B>(262_143, true).is_none());
     let strict = B::make(3, true)?;

@@ -1,5 +1,5 @@
 -- No objection is an answer that says the page vouches. Assumes nothing.
-use Rattle.std.proofs.Common.{◌≡◌, ℕ, Bool, true, false, cond, List, is_some, Some, None, Option, sym, refl, ap, ◌∙◌}
+use Rattle.std.proofs.Common.{◌≡◌, ℕ, Bool, true, false, cond, List, is_err, Ok, Err, Result, sym, refl, ap, ◌∙◌}
 use Rattle.bounds.specs.Kinds.{Kind}
 use Rattle.cells.specs.Drafts.{draft_zone}
 use Rattle.cells.specs.Objections.{partners_unsound, places_differ, bound_exceeds, page_zone}
@@ -10,22 +10,25 @@ use Rattle.books.specs.declared.objections.Objection.{Objection}
 use Rattle.books.specs.declared.objections.Objection.TheVariants.{Partner, Place, Bound}
 use Rattle.books.specs.Objections.{objection_of, Means}
 
-no_test : (a b c : Bool) → cond a (Some Partner) (cond b (Some Place) (cond c (Some Bound) None)) ≡ None → (a ≡ false) × (b ≡ false) × (c ≡ false)
-no_test true b c e = absurd (true≢false (ap is_some e))
-no_test false true c e = absurd (true≢false (ap is_some e))
-no_test false false true e = absurd (true≢false (ap is_some e))
+abbrev first_test : Bool → Bool → Bool → Result (Unit {0}) Objection
+first_test a b c = cond a (Err Partner) (cond b (Err Place) (cond c (Err Bound) (Ok tt)))
+
+no_test : (a b c : Bool) → first_test a b c ≡ Ok tt → (a ≡ false) × (b ≡ false) × (c ≡ false)
+no_test true b c e = absurd (true≢false (ap is_err e))
+no_test false true c e = absurd (true≢false (ap is_err e))
+no_test false false true e = absurd (true≢false (ap is_err e))
 no_test false false false e = (refl, refl, refl)
 
 module _ {B : Type 0} (kind : Kind B) (page_places : List ℕ) (page : List B) (item_places : List ℕ) (item : List B) (pairing : List ℕ) where
-  vouches : objection_of kind page_places page item_places item pairing ≡ None → Vouches kind (page_zone kind page_places page) (draft_zone kind item_places item) pairing
+  vouches : objection_of kind page_places page item_places item pairing ≡ Ok tt → Vouches kind (page_zone kind page_places page) (draft_zone kind item_places item) pairing
   vouches e =
       let none = no_test (partners_unsound page_places item_places pairing) (places_differ page_places item_places pairing) (bound_exceeds kind page item pairing) e in
       vouches_from kind page_places page item_places item pairing none.0 none.1 none.2
 
-  nothing : Vouches kind (page_zone kind page_places page) (draft_zone kind item_places item) pairing → objection_of kind page_places page item_places item pairing ≡ None
+  nothing : Vouches kind (page_zone kind page_places page) (draft_zone kind item_places item) pairing → objection_of kind page_places page item_places item pairing ≡ Ok tt
   nothing v =
       let lacks = none_lacks kind page_places page item_places item pairing v in
       cond-false (partners_unsound page_places item_places pairing) _ _ lacks.0 ∙ (cond-false (places_differ page_places item_places pairing) _ _ lacks.1 ∙ cond-false (bound_exceeds kind page item pairing) _ _ lacks.2)
 
-  pub means : (answer : Option Objection) → answer ≡ objection_of kind page_places page item_places item pairing → Means kind page_places page item_places item pairing answer
-  means answer is = record { vouches = λ e. vouches (sym is ∙ e); none = λ v. is ∙ nothing v }
+  pub means : (answer : Result (Unit {0}) Objection) → answer ≡ objection_of kind page_places page item_places item pairing → Means kind page_places page item_places item pairing answer
+  means answer is = record { vouches = λ e. vouches (sym is ∙ e); nothing = λ v. is ∙ nothing v }

@@ -2,7 +2,13 @@
 --     page      81 cells, (j,i) at 9 j + i, and 8 places
 -- Assumes nothing.
 use Rattle.std.specs.Prelude.{◌≡◌, ℕ, suc, ◌+◌, ◌*◌, Bool, true, false, cond, ◌&&◌, List, length, take, drop, Some, None, Option, nat_le}
+use Rattle.std.specs.Borrow.{Bor}
 use Rattle.books.specs.declared.book.Page.{Page}
+
+-- what belongs to the page with this number, of so many to a page
+abbrev pub PartOf : {X : Type 0} → List X → ℕ → ℕ → Option (Bor (List X)) → Type 0
+PartOf items size number (Some part) = (nat_le (size * number + size) (length items) ≡ true) × (part.now ≡ take size (drop (size * number) items))
+PartOf items size number None = nat_le (size * number + size) (length items) ≡ false
 
 -- a page has at most eight tokens, and the book reaches to its end
 abbrev pub has_page : {B : Type 0} → List B → List ℕ → ℕ → ℕ → Bool

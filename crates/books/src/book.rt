@@ -1,15 +1,16 @@
 // The zone book: pages of 81 cells, (j,i) of a page at 9 j + i, with eight places each.
-ghost use Rattle.std.specs.Prelude.{◌≡◌, ◌*◌, length};
-ghost use Rattle.books.specs.Books.{Opened, page_points};
+ghost use Rattle.std.specs.Prelude.{◌≡◌, ◌≤◌};
+ghost use Rattle.books.specs.Books.{Opened, PartOf, page_points};
 ghost use Rattle.cells.specs.Cells.{in_page, loaded};
 
-use crate::grids::{load, page_bound};
 use bounds::Bound;
+use pages::draft::cell;
+use pages::fill::fill;
+use pages::tokens::MOST_TOKENS;
 
 const PAGE_CELLS: usize = 81;
 
-const PAGE_PLACES: usize = 8;
-
+// Cells and places are lent, each as one slice for the whole book.
 #[derive(Clone, Copy)]
 pub struct Book<'a, 'b, B> {
     pub cells: &'a [B],
@@ -23,16 +24,13 @@ pub struct Page<'a, 'b, B> {
     pub places: &'b [u8],
 }
 
-fn first_cell(number: u8) -> usize
-    ensures { result ≡ 81 * number }
+// What belongs to the page with this number, of so many to a page.
+fn part<X>(items: &[X], size: usize, number: u8) -> Option<&[X]>
+    requires { size ≤ 81 }
+    ensures { PartOf items.now size number result }
 {
-    PAGE_CELLS * usize::from(number)
-}
-
-fn first_place(number: u8) -> usize
-    ensures { result ≡ 8 * number }
-{
-    PAGE_PLACES * usize::from(number)
+    let start = size * usize::from(number);
+    items.get(start..start + size)
 }
 
 impl<'a, 'b, B: Bound> Book<'a, 'b, B> {
@@ -40,17 +38,9 @@ impl<'a, 'b, B: Bound> Book<'a, 'b, B> {
     pub fn page(&self, number: u8, tokens: u8) -> Option<Page<'a, 'b, B>>
         ensures { Opened self.now.cells.now self.now.places.now number tokens result }
     {
-        let cell = first_cell(number);
-        let place = first_place(number);
-        let tokens = usize::from(tokens);
-        if PAGE_PLACES < tokens
-            || self.cells.len() < cell + PAGE_CELLS
-            || self.places.len() < place + PAGE_PLACES
-        {
-            return None;
-        }
-        let cells = &self.cells[cell..cell + PAGE_CELLS];
-        let places = &self.places[place..place + tokens];
+        let cells = part(self.cells, PAGE_CELLS, number)?;
+        let all_places = part(self.places, MOST_TOKENS, number)?;
+        let places = all_places.get(..usize::from(tokens))?;
         Some(Page { cells, places })
     }
 }
@@ -59,19 +49,23 @@ impl<'a, 'b, B: Bound> Page<'a, 'b, B> {
     pub fn bound(&self, j: u8, i: u8) -> B
         ensures { result ≡ in_page B.Bound.kind self.now.cells.now j i }
     {
-        page_bound(self.cells, usize::from(j), usize::from(i))
+        self.at(usize::from(j), usize::from(i))
+    }
+
+    // A place outside the page reads as no limit. No slice reaches as far as the largest number, so a place past it is none either way.
+    pub(crate) fn at(&self, j: usize, i: usize) -> B
+        ensures { result ≡ in_page B.Bound.kind self.now.cells.now j i }
+    {
+        cell(self.cells, j.saturating_mul(9).saturating_add(i))
     }
 
     // Writes the zone into a draft; one of more than eight tokens is none of the book's, and is left.
     pub fn load(&self, draft: &mut [B])
         ensures { draft.new ≡ loaded B.Bound.kind self.now.cells.now (page_points self.now.places.now) draft.old }
     {
-        let tokens = self.places.len();
-        let points = if tokens <= PAGE_PLACES {
-            tokens as u8 + 1
-        } else {
-            0
-        };
-        load(self.cells, points, draft);
+        if self.places.len() <= MOST_TOKENS {
+            let points = self.places.len() as u8 + 1;
+            fill(draft, points, |j, i| self.bound(j, i));
+        }
     }
 }

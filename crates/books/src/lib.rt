@@ -4,9 +4,9 @@
 pub mod book;
 pub mod grids;
 pub mod objections;
-mod partners;
 pub mod vouching;
 
 pub use book::{Book, Page};
 pub use grids::wipe;
 pub use objections::Objection;
+pub use vouching::{Claim, Item};

@@ -14,6 +14,7 @@ pub enum Objection {
 }
 
 impl Objection {
+    // Not a `Refusal` of records, which this crate does not stand on: an objection is no fault at a byte.
     pub fn number(self) -> u8
         ensures { result ≡ objection_number self }
     {

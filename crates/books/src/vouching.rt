@@ -1,74 +1,105 @@
 // Whether a page's zone vouches for a zone in a draft, and what stands against it.
 ghost use Rattle.books.specs.Objections.{objection_of, Means};
-ghost use Rattle.cells.specs.Objections.{exceeds, exceeds_in_row, bound_exceeds};
-ghost use Rattle.std.specs.Prelude.{◌≡◌};
+ghost use Rattle.cells.specs.Objections.{partner_taken, partner_unsound, partners_unsound, places_differ, exceeds, exceeds_in_row, bound_exceeds};
+ghost use Rattle.zones.specs.Vouching.{partner};
+ghost use Rattle.std.specs.Prelude.{◌≡◌, length};
 
 use crate::book::Page;
-use crate::grids::page_bound;
 use crate::objections::Objection;
-use crate::partners::{partner, partners_unsound, places_differ};
 use bounds::Bound;
+use pages::bytes::{byte, numbered_byte, place_of};
 use pages::draft::bound_at;
 
-fn exceeds<B: Bound>(page: &[B], item: &[B], pairing: &[u8], j: usize, i: usize) -> bool
-    ensures { result ≡ exceeds B.Bound.kind page.now item.now pairing.now j i }
-{
-    let of_item = bound_at(item, partner(pairing, j), partner(pairing, i));
-    let of_page = page_bound(page, j, i);
-    j != i && !of_item.at_most(of_page)
+// The zone that a page is to vouch for, in a draft: 13 cells to a row, where a page has 9.
+#[derive(Clone, Copy)]
+pub struct Item<'a, 'b, B> {
+    pub cells: &'a [B],
+    pub places: &'b [u8],
 }
 
-fn some_exceeds_in_row<B: Bound>(page: &[B], item: &[B], pairing: &[u8], j: usize) -> bool
-    ensures { result ≡ exceeds_in_row B.Bound.kind page.now item.now pairing.now j }
-{
-    for i in 0..pairing.len() + 1 {
-        if exceeds(page, item, pairing, j, i) {
-            return true;
+// That a page's zone vouches for an item. The pairing has a token of the item for each token of the page. One lifetime for all
+// five parts would ask more of callers.
+#[derive(Clone, Copy)]
+pub struct Claim<'a, 'b, 'c, 'd, 'e, B> {
+    pub page: Page<'a, 'b, B>,
+    pub item: Item<'c, 'd, B>,
+    pub pairing: &'e [u8],
+}
+
+impl<'a, 'b, 'c, 'd, 'e, B: Bound> Claim<'a, 'b, 'c, 'd, 'e, B> {
+    // The partner of a point; the clock is its own.
+    fn partner(&self, point: usize) -> u8
+        ensures { result ≡ partner self.now.pairing.now point }
+    {
+        numbered_byte(self.pairing, point)
+    }
+
+    // Whether an earlier token has the partner of token k. Tokens are counted from 0 here.
+    fn is_taken(&self, k: usize) -> bool
+        ensures { result ≡ partner_taken self.now.pairing.now k }
+    {
+        (0..k).any(|i| byte(self.pairing, i) == byte(self.pairing, k))
+    }
+
+    // Whether the partner of token k is no token of the item, or is taken.
+    fn is_unsound(&self, k: usize) -> bool
+        ensures { result ≡ partner_unsound (length self.now.item.places.now) self.now.pairing.now k }
+    {
+        let partner = usize::from(byte(self.pairing, k));
+        !(1..=self.item.places.len()).contains(&partner) || self.is_taken(k)
+    }
+
+    fn lacks_partners(&self) -> bool
+        ensures { result ≡ partners_unsound self.now.page.places.now self.now.item.places.now self.now.pairing.now }
+    {
+        self.pairing.len() != self.page.places.len()
+            || (0..self.pairing.len()).any(|k| self.is_unsound(k))
+    }
+
+    // By number and not by `zip`, since the pairing and the page's places may differ in length.
+    fn places_differ(&self) -> bool
+        ensures { result ≡ places_differ self.now.page.places.now self.now.item.places.now self.now.pairing.now }
+    {
+        (0..self.pairing.len()).any(|k| {
+            place_of(self.item.places, byte(self.pairing, k)) != byte(self.page.places, k)
+        })
+    }
+
+    // Whether the item's bound of the partners of two points is larger than the page's of the points.
+    fn exceeds(&self, j: usize, i: usize) -> bool
+        ensures { result ≡ exceeds B.Bound.kind self.now.page.cells.now self.now.item.cells.now self.now.pairing.now j i }
+    {
+        let of_item = bound_at(self.item.cells, self.partner(j), self.partner(i));
+        let of_page = self.page.at(j, i);
+        j != i && !of_item.at_most(of_page)
+    }
+
+    // By number here and below, since each test takes the number of a point.
+    fn row_exceeds(&self, j: usize) -> bool
+        ensures { result ≡ exceeds_in_row B.Bound.kind self.now.page.cells.now self.now.item.cells.now self.now.pairing.now j }
+    {
+        (0..self.pairing.len() + 1).any(|i| self.exceeds(j, i))
+    }
+
+    fn some_exceeds(&self) -> bool
+        ensures { result ≡ bound_exceeds B.Bound.kind self.now.page.cells.now self.now.item.cells.now self.now.pairing.now }
+    {
+        (0..self.pairing.len() + 1).any(|j| self.row_exceeds(j))
+    }
+
+    // What stands against the claim, the lowest number first.
+    pub fn check(&self) -> Result<(), Objection>
+        ensures is { result ≡ objection_of B.Bound.kind self.now.page.places.now self.now.page.cells.now self.now.item.places.now self.now.item.cells.now self.now.pairing.now }
+        ensures means { Means B.Bound.kind self.now.page.places.now self.now.page.cells.now self.now.item.places.now self.now.item.cells.now self.now.pairing.now result }
+    {
+        if self.lacks_partners() {
+            Err(Objection::Partner)
+        } else if self.places_differ() {
+            Err(Objection::Place)
+        } else if self.some_exceeds() {
+            Err(Objection::Bound)
+        } else {
+            Ok(())
         }
     }
-    false
-}
-
-fn some_exceeds<B: Bound>(page: &[B], item: &[B], pairing: &[u8]) -> bool
-    ensures { result ≡ bound_exceeds B.Bound.kind page.now item.now pairing.now }
-{
-    for j in 0..pairing.len() + 1 {
-        if some_exceeds_in_row(page, item, pairing, j) {
-            return true;
-        }
-    }
-    false
-}
-
-fn first_objection<B: Bound>(
-    page: &Page<B>,
-    item_cells: &[B],
-    item_places: &[u8],
-    pairing: &[u8],
-) -> Option<Objection>
-    ensures { result ≡ objection_of B.Bound.kind page.now.places.now page.now.cells.now item_places.now item_cells.now pairing.now }
-{
-    if partners_unsound(page.places, item_places, pairing) {
-        return Some(Objection::Partner);
-    }
-    if places_differ(page.places, item_places, pairing) {
-        return Some(Objection::Place);
-    }
-    if some_exceeds(page.cells, item_cells, pairing) {
-        return Some(Objection::Bound);
-    }
-    None
-}
-
-// What stands against the page's vouching for the item by a pairing, the lowest number first.
-pub fn objection<B: Bound>(
-    page: &Page<B>,
-    item_cells: &[B],
-    item_places: &[u8],
-    pairing: &[u8],
-) -> Option<Objection>
-    ensures is { result ≡ objection_of B.Bound.kind page.now.places.now page.now.cells.now item_places.now item_cells.now pairing.now }
-    ensures means { Means B.Bound.kind page.now.places.now page.now.cells.now item_places.now item_cells.now pairing.now result }
-{
-    first_objection(page, item_cells, item_places, pairing)
 }

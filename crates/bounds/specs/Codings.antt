@@ -22,7 +22,7 @@ pub record Coding (B : Type 0) : Type 0 where
   pub marked : (b : B) → limit_strict (view b) ≡ true → marks ≡ true
 
 -- ---- a sum of two limits has its value
-either_marked : (marks s t : Bool) → (s ≡ true → marks ≡ true) → (t ≡ true → marks ≡ true) → (s || t) ≡ true → marks ≡ true
+pub either_marked : (marks s t : Bool) → (s ≡ true → marks ≡ true) → (t ≡ true → marks ≡ true) → (s || t) ≡ true → marks ≡ true
 either_marked marks true t p q e = p refl
 either_marked marks false t p q e = q e
 

@@ -76,3 +76,7 @@ pub record Kind (B : Type 0) : Type 0 where
 -- what making answers: the bound of the number, unless the number is outside the limits or the kind does not take the mark
 abbrev pub made : {B : Type 0} → Kind B → ℤ → Bool → Result B MakeError
 made kind c strict = cond (nat_le (unsigned_abs c) largest_number) (cond (strict && not kind.marks) (Err MarkNotTaken) (Ok (kind.number c strict))) (Err OutsideLimits)
+
+-- the bound of the number, without its mark where the kind does not take it; outside the limits no limit
+abbrev pub bound_of : {B : Type 0} → Kind B → ℤ → Bool → B
+bound_of kind c strict = cond (nat_le (unsigned_abs c) largest_number) (kind.number c (strict && kind.marks)) kind.no_limit

@@ -5,7 +5,8 @@ use Rattle.std.proofs.Common.{mul-le-mul_left, mul-add, arith, leb→le, inl, in
 use Rattle.std.proofs.Math.Nat.{mul-lt-mul_of_pos_left}
 use borrow.Author.Differences.{ints, up, down}
 use Rattle.std.proofs.Math.IntN.{+ℤ_assoc, +ℤ_comm, +ℤ_idl, *ℤ-zero}
-use Rattle.std.proofs.lemmas.Bool.{true≢false, false≢true, le-leb}
+use Rattle.std.proofs.Math.Bool.{or_assoc, or_comm}
+use Rattle.std.proofs.lemmas.Bool.{true≢false, false≢true, cases_Bool, le-leb}
 use Rattle.bounds.specs.Kinds.{largest_size, number_allows, place}
 
 pub data Limit : Type 0 where
@@ -41,13 +42,9 @@ limit_strict (number c s) = s
 limit_strict unlimited = false
 
 -- ---- the order
-by_test : (t : Bool) → (t ≡ true) ⊎ (t ≡ false)
-by_test true = inl refl
-by_test false = inr refl
-
 pub limit_total : (a b : Limit) → (limit_at_most a b ≡ true) ⊎ (limit_at_most b a ≡ true)
 limit_total (number c s) (number d t) =
-    ⊎_elim inl (λ (e : int_le (place c s) (place d t) ≡ false). inr (sym (omega (arith, ints)))) (by_test (int_le (place c s) (place d t)))
+    ⊎_elim inl (λ (e : int_le (place c s) (place d t) ≡ false). inr (sym (omega (arith, ints)))) (cases_Bool (int_le (place c s) (place d t)))
 limit_total (number c s) unlimited = inl refl
 limit_total unlimited (number d t) = inr refl
 limit_total unlimited unlimited = inl refl
@@ -81,16 +78,6 @@ limit_top unlimited = refl
 -- ---- sums
 kept : (c : ℤ) (s : Bool) → unsigned_abs c ≤ largest_size → capped c s ≡ number c s
 kept c s h = ap (λ t. cond t (number c s) unlimited) (le-leb (unsigned_abs c) largest_size h)
-
-or_assoc : (r s t : Bool) → ((r || s) || t) ≡ (r || (s || t))
-or_assoc true s t = refl
-or_assoc false s t = refl
-
-or_comm : (s t : Bool) → (s || t) ≡ (t || s)
-or_comm true true = refl
-or_comm true false = refl
-or_comm false true = refl
-or_comm false false = refl
 
 -- a sum of two that stay small
 sum_kept : (c d : ℤ) (s t : Bool) → unsigned_abs c + unsigned_abs d ≤ largest_size → limit_sum (number c s) (number d t) ≡ number (c +ℤ d) (s || t)
@@ -168,7 +155,7 @@ scaled_lt k c d p h =
     let l : up c + down d < up d + down c = omega (arith, ints) in
     sym (omega (arith, ints, mul-lt-mul_of_pos_left l p, mul-add k (up c) (down d), mul-add k (up d) (down c)))
 
-scaled_sum : (k : ℕ) (c d : ℤ) → pos k *ℤ (c +ℤ d) ≡ pos k *ℤ c +ℤ pos k *ℤ d
+pub scaled_sum : (k : ℕ) (c d : ℤ) → pos k *ℤ (c +ℤ d) ≡ pos k *ℤ c +ℤ pos k *ℤ d
 scaled_sum k c d =
     let e : up (c +ℤ d) + down c + down d ≡ down (c +ℤ d) + up c + up d = omega (arith, ints) in
     let f : k * (up (c +ℤ d) + down c + down d) ≡ k * (down (c +ℤ d) + up c + up d) = ap (λ n. k * n) e in

@@ -5,18 +5,18 @@ use Rattle.bounds.specs.Kinds.{Kind}
 use Rattle.bounds.specs.Limits.{Limit}
 use Rattle.bounds.specs.Limits.Limit.{number, unlimited}
 use Rattle.bounds.specs.Codings.{Coding, Held, kind_of}
-use Rattle.bounds.specs.declared.marked.Marked.{Marked}
+use Rattle.bounds.specs.declared.marked.MarkedNumber.{MarkedNumber}
 use Rattle.bounds.specs.declared.marked.MarkedBound.{MarkedBound}
 
-abbrev pub marked_limit : Option Marked → Limit
+abbrev pub marked_limit : Option MarkedNumber → Limit
 marked_limit (Some m) = number m.number m.strict
 marked_limit None = unlimited
 
-abbrev pub marked_of : Limit → Option Marked
+abbrev pub marked_of : Limit → Option MarkedNumber
 marked_of (number c s) = Some (record { number = c; strict = s })
 marked_of unlimited = None
 
-pub marked_back : (o : Option Marked) → marked_of (marked_limit o) ≡ o
+pub marked_back : (o : Option MarkedNumber) → marked_of (marked_limit o) ≡ o
 marked_back (Some m) = refl
 marked_back None = refl
 

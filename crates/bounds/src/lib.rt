@@ -1,4 +1,5 @@
-// Bounds on differences of ages: the interface of a kind with its laws, and two kinds that keep them.
+// Bounds on differences of ages: the interface of a kind with its laws, and two kinds that keep them. The kinds are two types and not
+// one with a parameter, since a plain bound has no room for a mark.
 #![tactic(auto)]
 
 pub mod bound;
@@ -9,7 +10,8 @@ pub mod plain;
 pub mod range;
 
 pub use bound::Bound;
-pub use made::{LARGEST_NUMBER, MakeError};
-pub use marked::MarkedBound;
+pub use capped::LARGEST_SIZE;
+pub use made::{LARGEST_NUMBER, MakeError, bound_of, within_limits};
+pub use marked::{MarkedBound, MarkedNumber};
 pub use plain::PlainBound;
 pub use range::Range;

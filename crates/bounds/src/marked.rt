@@ -1,31 +1,44 @@
 // Marked bounds: a whole number, perhaps strict, or no limit.
+ghost use Rattle.bounds.specs.Kinds.{number_allows};
+ghost use Rattle.bounds.specs.Limits.Limit.{number};
 ghost use Rattle.bounds.specs.MarkedKind.{marked_kind, marked_limit};
 ghost use Rattle.bounds.specs.Texts.{limit_text};
 ghost use Rattle.std.specs.Prelude.{◌≡◌, Some};
 
 use crate::bound::Bound;
 use crate::capped::capped_sum;
-use crate::made::{LARGEST_NUMBER, MakeError};
+use crate::made::{MakeError, within_limits};
 use std::fmt;
 
+// A number with its mark.
 #[derive(Clone, Copy, PartialEq, Eq, Debug)]
-struct Marked {
-    number: i64,
-    strict: bool,
+pub struct MarkedNumber {
+    pub number: i64,
+    pub strict: bool,
 }
 
 #[derive(Clone, Copy, PartialEq, Eq, Debug)]
 pub struct MarkedBound {
-    limit: Option<Marked>,
+    limit: Option<MarkedNumber>,
+}
+
+impl MarkedNumber {
+    pub fn allows(self, difference: i64) -> bool
+        ensures { result ≡ number_allows 1 self.number self.strict difference }
+    {
+        if self.strict {
+            difference < self.number
+        } else {
+            difference <= self.number
+        }
+    }
 }
 
 impl MarkedBound {
-    fn limited(number: i64, strict: bool) -> MarkedBound
-        ensures { result ≡ record { limit = Some (record { number = number; strict = strict }) } }
+    fn limited(limit: MarkedNumber) -> MarkedBound
+        ensures { result ≡ record { limit = Some limit } }
     {
-        MarkedBound {
-            limit: Some(Marked { number, strict }),
-        }
+        MarkedBound { limit: Some(limit) }
     }
 }
 
@@ -33,7 +46,10 @@ impl Bound for MarkedBound {
     ghost kind = { marked_kind };
 
     fn zero() -> MarkedBound {
-        MarkedBound::limited(0, false)
+        MarkedBound::limited(MarkedNumber {
+            number: 0,
+            strict: false,
+        })
     }
 
     fn no_limit() -> MarkedBound {
@@ -41,18 +57,20 @@ impl Bound for MarkedBound {
     }
 
     fn make(number: i32, strict: bool) -> Result<MarkedBound, MakeError> {
-        if number < -LARGEST_NUMBER || LARGEST_NUMBER < number {
-            return Err(MakeError::OutsideLimits);
-        }
-        Ok(MarkedBound::limited(i64::from(number), strict))
+        let number = within_limits(number)?;
+        Ok(MarkedBound::limited(MarkedNumber { number, strict }))
     }
 
+    // This and `at_most` take bounds apart by matches: the parts of three words stay in registers, and through closures and a pair they do not.
     fn sum(self, other: MarkedBound) -> MarkedBound {
         let (Some(a), Some(b)) = (self.limit, other.limit) else {
             return MarkedBound { limit: None };
         };
         match capped_sum(a.number, b.number) {
-            Some(number) => MarkedBound::limited(number, a.strict | b.strict),
+            Some(number) => MarkedBound::limited(MarkedNumber {
+                number,
+                strict: a.strict | b.strict,
+            }),
             None => MarkedBound { limit: None },
         }
     }
@@ -61,33 +79,35 @@ impl Bound for MarkedBound {
         match (self.limit, other.limit) {
             (Some(a), Some(b)) if a.number == b.number => a.strict || !b.strict,
             (Some(a), Some(b)) => a.number < b.number,
-            (_, None) => true,
-            (None, Some(_)) => false,
+            (_, limit) => limit.is_none(),
         }
     }
 
     fn allows(self, difference: i64) -> bool {
-        match self.limit {
-            Some(c) if c.strict => difference < c.number,
-            Some(c) => difference <= c.number,
-            None => true,
+        self.limit.is_none_or(|c| c.allows(difference))
+    }
+}
+
+impl fmt::Display for MarkedNumber {
+    ghost output = { λ m. Some (limit_text (number m.number m.strict)) };
+
+    fn fmt<W: fmt::Write>(&self, f: &mut fmt::Formatter<W>) -> fmt::Result {
+        let number = self.number;
+        if self.strict {
+            write!(f, "<{number}")
+        } else {
+            write!(f, "{number}")
         }
     }
 }
 
+// Each kind says this for itself: shared by crates it would be a public function, longer than its uses.
 impl fmt::Display for MarkedBound {
     ghost output = { λ b. Some (limit_text (marked_limit b.limit)) };
 
     fn fmt<W: fmt::Write>(&self, f: &mut fmt::Formatter<W>) -> fmt::Result {
         match self.limit {
-            Some(c) => {
-                let number = c.number;
-                if c.strict {
-                    write!(f, "<{number}")
-                } else {
-                    write!(f, "{number}")
-                }
-            }
+            Some(limit) => write!(f, "{limit}"),
             None => write!(f, "no limit"),
         }
     }

@@ -9,7 +9,7 @@ ghost use Rattle.std.specs.Prelude.{◌≡◌, true, false, Some, None, refl};
 
 use crate::bound::Bound;
 use crate::capped::capped_sum;
-use crate::made::{LARGEST_NUMBER, MakeError};
+use crate::made::{MakeError, within_limits};
 use std::fmt;
 
 #[derive(Clone, Copy, PartialEq, Eq, Debug)]
@@ -40,39 +40,31 @@ impl Bound for PlainBound {
     }
 
     fn make(number: i32, strict: bool) -> Result<PlainBound, MakeError> {
-        if number < -LARGEST_NUMBER || LARGEST_NUMBER < number {
-            return Err(MakeError::OutsideLimits);
-        }
+        let number = within_limits(number)?;
         if strict {
             return Err(MakeError::MarkNotTaken);
         }
         Ok(PlainBound {
-            limit: Some(i64::from(number)),
+            limit: Some(number),
         })
     }
 
     fn sum(self, other: PlainBound) -> PlainBound {
-        match (self.limit, other.limit) {
-            (Some(a), Some(b)) => PlainBound {
-                limit: capped_sum(a, b),
-            },
-            _ => PlainBound { limit: None },
-        }
+        let limit = self
+            .limit
+            .zip(other.limit)
+            .and_then(|(a, b)| capped_sum(a, b));
+        PlainBound { limit }
     }
 
     fn at_most(self, other: PlainBound) -> bool {
-        match (self.limit, other.limit) {
-            (Some(a), Some(b)) => a <= b,
-            (_, None) => true,
-            (None, Some(_)) => false,
-        }
+        other
+            .limit
+            .is_none_or(|b| self.limit.is_some_and(|a| a <= b))
     }
 
     fn allows(self, difference: i64) -> bool {
-        match self.limit {
-            Some(c) => difference <= c,
-            None => true,
-        }
+        self.limit.is_none_or(|c| difference <= c)
     }
 }
 

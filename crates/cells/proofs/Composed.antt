@@ -12,10 +12,10 @@ use Rattle.zones.specs.Zones.{SizedZone}
 use Rattle.cells.specs.Cells.{in_draft, times, matched_cells, picked_cells, input_cells, added_cells, delayed_cells, arc_at, column_least}
 use Rattle.cells.specs.Drafts.{draft_zone, Workable, largest_listed, largest_predecessor}
 use Rattle.cells.specs.Settling.{Ready, Consistent}
-use Rattle.cells.specs.Sifted.{sifted, Lists}
+use Rattle.cells.specs.Sifted.{sifted}
 use Rattle.cells.proofs.Grid.{length_matched, length-picked, length-added}
 use Rattle.cells.proofs.Operations.{Rising, matched_is, picked_is, kept_rises, kept_few, added_old, added_row, added_column, added_self, delayed_row, delayed_first, delayed_least, least_zero, least_below, least_reached}
-use Rattle.cells.proofs.Sifted.{sifted-others, sifted_among, sifted_inside, sifted_few, lists_count, lists_at}
+use Rattle.cells.proofs.Sifted.{sifted-others, sifted_among, sifted_inside, sifted_few}
 use Rattle.cells.proofs.Steps.{Good, normal_good, DelayedTo, delay_good, delay_normal, matches_below, matches_length, narrow_still, narrow_sized, narrow_same, narrow_settled, Added, Grown, grown_added, fired_back, firing_picked, firing_predecessor, firing_good}
 
 every_below : (n : ℕ) (xs : List ℕ) (i : ℕ) → 0 < n → Every (λ d. d < n) xs → get_or xs i 0 < n
@@ -104,7 +104,7 @@ module _ {B : Type 0} (kind : Kind B) (places : List ℕ) (cells : List B) (work
     pub firing_void : Negative kind (suc (length places)) (in_draft kind (matched_cells kind t.outputs ms cells)) → Void kind t ms (draft_zone kind places cells)
     firing_void negative = same_negative kind n (in_draft kind narrow_cells) (counted kind (narrowed_by kind t.outputs ms (in_draft kind cells))) narrow_counted negative
 
-    module _ (closed : List B) (whole : length closed ≡ 169) (consistent : Consistent kind (suc (length places)) (in_draft kind (matched_cells kind t.outputs ms cells)) (in_draft kind closed)) (count : ℕ) (kept : List ℕ) (lists : Lists (0 ∷ sifted false ms 1 (length places)) count kept) where
+    module _ (closed : List B) (whole : length closed ≡ 169) (consistent : Consistent kind (suc (length places)) (in_draft kind (matched_cells kind t.outputs ms cells)) (in_draft kind closed)) (count : ℕ) (kept : List ℕ) (listed : kept ≡ 0 ∷ sifted false ms 1 (length places)) (all : count ≡ length kept) where
       abbrev stay : List ℕ
       stay = staying ms (draft_zone kind places cells)
 
@@ -118,10 +118,10 @@ module _ {B : Type 0} (kind : Kind B) (places : List ℕ) (cells : List B) (work
       possible v = consistent.none (same_negative kind n (counted kind (narrowed_by kind t.outputs ms (in_draft kind cells))) (in_draft kind narrow_cells) (same_back kind n (in_draft kind narrow_cells) (counted kind (narrowed_by kind t.outputs ms (in_draft kind cells))) narrow_counted) v)
 
       count_is : count ≡ rows
-      count_is = lists_count (0 ∷ sifted false ms 1 (length places)) count kept lists ∙ ap (λ xs. suc (length xs)) (sifted-others ms 1 (length places))
+      count_is = all ∙ ap length listed ∙ ap (λ xs. suc (length xs)) (sifted-others ms 1 (length places))
 
       kept_at : (j : ℕ) → j < rows → get_or kept j 0 ≡ get_or (0 ∷ stay) j 0
-      kept_at j l = lists_at (0 ∷ sifted false ms 1 (length places)) count kept j lists (omega (arith, l, count_is)) ∙ ap (λ xs. get_or (0 ∷ xs) j 0) (sifted-others ms 1 (length places))
+      kept_at j l = ap (λ xs. get_or xs j 0) listed ∙ ap (λ xs. get_or (0 ∷ xs) j 0) (sifted-others ms 1 (length places))
 
       rows_few : rows ≤ 9
       rows_few = omega (arith, kept_few ms (length places), work.few)

@@ -1,7 +1,10 @@
 -- A pairing that lacks nothing is one by which the page's zone vouches for the item's, and the other way round. Assumes nothing.
-use Rattle.std.proofs.Common.{◌≡◌, ℕ, zero, suc, ◌+◌, ◌<◌, Bool, true, false, not, eqb, ltb, List, [], ◌∷◌, map, length, get_or, sym, refl, ap, ◌∙◌, subst, ⊎_elim, add-one, arith}
+use Rattle.std.proofs.Common.{◌≡◌, ℕ, suc, ◌+◌, ◌<◌, Bool, true, false, not, eqb, ltb, List, [], ◌∷◌, map, length, get_or, sym, refl, ap, ◌∙◌, subst, ⊎_elim, arith}
+use Rattle.std.proofs.lemmas.List.Folds.{list_any_at, list_any_none}
+use Rattle.std.proofs.lemmas.List.FromFn.{length-range_with_len, get_or-range_with_len}
+use Rattle.std.specs.List.{list_any, range_with_len}
 use Rattle.std.proofs.lemmas.List.{ext_get_or, get_or-map, length-map}
-use Rattle.std.proofs.lemmas.Bool.{cases_eq, or_left, or_right, or_from, or_parts, and_left, and_right, and_cases, eqb-true, eqb-false, eq-eqb, ne_eqb, ltb-false, le-ltb, not-false, not_from_true, both_ways}
+use Rattle.std.proofs.lemmas.Bool.{cases_eq, or_from, or_parts, and_left, and_right, and_cases, eqb-true, eqb-false, eq-eqb, ne_eqb, ltb-false, le-ltb, not-false, not_from_true, both_ways}
 use Rattle.bounds.specs.Kinds.{Kind}
 use Rattle.nets.specs.Nets.{Every, numbered}
 use Rattle.zones.specs.Predecessors.{among}
@@ -9,40 +12,23 @@ use Rattle.zones.specs.Vouching.{Vouches, Partner, Distinct, partner}
 use Rattle.zones.proofs.Chosen.{every_getD, distinct_apart}
 use Rattle.cells.specs.Cells.{in_page, in_draft}
 use Rattle.cells.specs.Drafts.{draft_zone}
-use Rattle.cells.specs.Objections.{some_below, no_partner, partner_taken, partner_unsound, partners_unsound, place_differs, places_differ, exceeds, exceeds_in_row, bound_exceeds, page_zone}
+use Rattle.cells.specs.Objections.{no_partner, partner_taken, partner_unsound, partners_unsound, place_differs, places_differ, exceeds, exceeds_in_row, bound_exceeds, page_zone}
 
--- ---- a loop that looks for a number with a property
-pub some_none : (p : ℕ → Bool) → some_below 0 p ≡ false
-unfolding some_below
-some_none p = refl
-
-pub some_passed : (n : ℕ) (p : ℕ → Bool) → some_below n p ≡ false → false ≡ p n → some_below (n + 1) p ≡ false
-unfolding some_below
-some_passed n p before here = ap (λ m. some_below m p) (add-one n) ∙ or_from (some_below n p) (p n) before (sym here)
-
-pub some_all : (n i : ℕ) (p : ℕ → Bool) → some_below i p ≡ false → i ≡ n → false ≡ some_below n p
-some_all n i p before end = sym before ∙ ap (λ m. some_below m p) end
-
-pub some_found : (n i : ℕ) (p : ℕ → Bool) → i < n → true ≡ p i → true ≡ some_below n p
-unfolding some_below
-some_found zero i p h e = absurd (omega arith)
-some_found (suc n) i p h e =
-    ⊎_elim
-    (λ same. sym (or_right (some_below n p) (p n) (ap p (sym same) ∙ sym e)))
-    (λ other. sym (or_left (some_below n p) (p n) (sym (some_found n i p (omega (arith, other)) e))))
-    (cases_eq i n)
-
-pub none_at : (n i : ℕ) (p : ℕ → Bool) → i < n → some_below n p ≡ false → p i ≡ false
+-- ---- a search among the numbers below n
+pub none_at : (n i : ℕ) (p : ℕ → Bool) → i < n → list_any p (range_with_len 0 n) ≡ false → p i ≡ false
 none_at n i p h e = by (p i) refl
   where
+    there : get_or (range_with_len 0 n) i 0 ≡ i
+    there = get_or-range_with_len 0 n i 0 h ∙ omega arith
+
     by : (t : Bool) → p i ≡ t → t ≡ false
-    by true here = some_found n i p h (sym here) ∙ e
+    by true here = sym (list_any_at p (range_with_len 0 n) i 0 (omega (arith, length-range_with_len 0 n, h)) (ap p there ∙ here)) ∙ e
     by false here = refl
 
-pub none_below : (n : ℕ) (p : ℕ → Bool) → ((i : ℕ) → i < n → p i ≡ false) → some_below n p ≡ false
-unfolding some_below
-none_below zero p h = refl
-none_below (suc n) p h = or_from (some_below n p) (p n) (none_below n p (λ i l. h i (omega arith))) (h n (omega arith))
+pub none_below : (n : ℕ) (p : ℕ → Bool) → ((i : ℕ) → i < n → p i ≡ false) → list_any p (range_with_len 0 n) ≡ false
+none_below n p h = list_any_none p (range_with_len 0 n) (λ i d l.
+    let few : i < n = omega (arith, length-range_with_len 0 n, l) in
+    ap p (get_or-range_with_len 0 n i d few ∙ omega arith) ∙ h i few)
 
 -- ---- partners
 every_from : (P : ℕ → Type 0) (ps : List ℕ) → ((j : ℕ) → j < length ps → P (get_or ps j 0)) → Every P ps
@@ -68,17 +54,17 @@ partner_back : (count p : ℕ) → Partner count p → no_partner count p ≡ fa
 partner_back count p h = or_from (eqb p 0) (ltb count p) (ne_eqb p 0 (λ e. omega (arith, h.some))) (le-ltb count p h.few)
 
 module _ (count : ℕ) (pairing : List ℕ) where
-  sound_at : some_below (length pairing) (partner_unsound count pairing) ≡ false → (k : ℕ) → k < length pairing → (no_partner count (get_or pairing k 0) ≡ false) × (partner_taken pairing k ≡ false)
+  sound_at : list_any (partner_unsound count pairing) (range_with_len 0 (length pairing)) ≡ false → (k : ℕ) → k < length pairing → (no_partner count (get_or pairing k 0) ≡ false) × (partner_taken pairing k ≡ false)
   sound_at none k l = or_parts (no_partner count (get_or pairing k 0)) (partner_taken pairing k) (none_at (length pairing) k (partner_unsound count pairing) l none)
 
-  every_partner : some_below (length pairing) (partner_unsound count pairing) ≡ false → Every (Partner count) pairing
+  every_partner : list_any (partner_unsound count pairing) (range_with_len 0 (length pairing)) ≡ false → Every (Partner count) pairing
   every_partner none = every_from (Partner count) pairing (λ j l. partner_from count (get_or pairing j 0) (sound_at none j l).0)
 
-  distinct_partners : some_below (length pairing) (partner_unsound count pairing) ≡ false → Distinct pairing
+  distinct_partners : list_any (partner_unsound count pairing) (range_with_len 0 (length pairing)) ≡ false → Distinct pairing
   distinct_partners none =
       distinct_from pairing (λ i k l m. eqb-false (get_or pairing i 0) (get_or pairing k 0) (none_at k i (λ a. eqb (get_or pairing a 0) (get_or pairing k 0)) l (sound_at none k m).1))
 
-  none_unsound : Every (Partner count) pairing → Distinct pairing → some_below (length pairing) (partner_unsound count pairing) ≡ false
+  none_unsound : Every (Partner count) pairing → Distinct pairing → list_any (partner_unsound count pairing) (range_with_len 0 (length pairing)) ≡ false
   none_unsound every distinct =
       none_below (length pairing) (partner_unsound count pairing) (λ k l.
       or_from (no_partner count (get_or pairing k 0)) (partner_taken pairing k)
@@ -102,19 +88,19 @@ module _ (page_places item_places pairing : List ℕ) where
 
 -- ---- bounds
 module _ {B : Type 0} (kind : Kind B) (page item : List B) (pairing : List ℕ) where
-  within : bound_exceeds kind page item pairing ≡ false → (j i : ℕ) → j < suc (length pairing) → i < suc (length pairing) → (j ≡ i → ⊥) → kind.at_most (in_draft kind item (partner pairing j) (partner pairing i)) (in_page kind page j i) ≡ true
+  within : bound_exceeds kind page item pairing ≡ false → (j i : ℕ) → j < length pairing + 1 → i < length pairing + 1 → (j ≡ i → ⊥) → kind.at_most (in_draft kind item (partner pairing j) (partner pairing i)) (in_page kind page j i) ≡ true
   within none j i p q apart =
-      let row = none_at (suc (length pairing)) j (exceeds_in_row kind page item pairing) p none in
-      let here = none_at (suc (length pairing)) i (exceeds kind page item pairing j) q row in
+      let row = none_at ((length pairing + 1)) j (exceeds_in_row kind page item pairing) p none in
+      let here = none_at ((length pairing + 1)) i (exceeds kind page item pairing j) q row in
       ⊎_elim
       (λ e. absurd (both_ways (eqb j i) (ne_eqb j i apart) (not-false (eqb j i) e)))
       (λ e. not-false _ e)
       (and_cases (not (eqb j i)) _ here)
 
-  none_exceeds : ((j i : ℕ) → j < suc (length pairing) → i < suc (length pairing) → (j ≡ i → ⊥) → kind.at_most (in_draft kind item (partner pairing j) (partner pairing i)) (in_page kind page j i) ≡ true) → bound_exceeds kind page item pairing ≡ false
+  none_exceeds : ((j i : ℕ) → j < length pairing + 1 → i < length pairing + 1 → (j ≡ i → ⊥) → kind.at_most (in_draft kind item (partner pairing j) (partner pairing i)) (in_page kind page j i) ≡ true) → bound_exceeds kind page item pairing ≡ false
   none_exceeds h =
-      none_below (suc (length pairing)) (exceeds_in_row kind page item pairing) (λ j p.
-      none_below (suc (length pairing)) (exceeds kind page item pairing j) (λ i q.
+      none_below ((length pairing + 1)) (exceeds_in_row kind page item pairing) (λ j p.
+      none_below ((length pairing + 1)) (exceeds kind page item pairing j) (λ i q.
       ⊎_elim
       (λ same. and_left (not (eqb j i)) _ (not_from_true (eqb j i) (eq-eqb j i same)))
       (λ apart. and_right (not (eqb j i)) _ (not_from_true _ (h j i p q apart)))
@@ -124,7 +110,7 @@ module _ {B : Type 0} (kind : Kind B) (page item : List B) (pairing : List ℕ) 
 module _ {B : Type 0} (kind : Kind B) (page_places : List ℕ) (page : List B) (item_places : List ℕ) (item : List B) (pairing : List ℕ) where
   pub vouches_from : partners_unsound page_places item_places pairing ≡ false → places_differ page_places item_places pairing ≡ false → bound_exceeds kind page item pairing ≡ false → Vouches kind (page_zone kind page_places page) (draft_zone kind item_places item) pairing
   vouches_from partners places bounds =
-      let parts = or_parts (not (eqb (length pairing) (length page_places))) (some_below (length pairing) (partner_unsound (length item_places) pairing)) partners in
+      let parts = or_parts (not (eqb (length pairing) (length page_places))) (list_any (partner_unsound (length item_places) pairing) (range_with_len 0 (length pairing))) partners in
       let count : length pairing ≡ length page_places = eqb-true (length pairing) (length page_places) (not-false _ parts.0) in
       record {
         count = count;
@@ -137,7 +123,7 @@ module _ {B : Type 0} (kind : Kind B) (page_places : List ℕ) (page : List B) (
   pub none_lacks : Vouches kind (page_zone kind page_places page) (draft_zone kind item_places item) pairing → (partners_unsound page_places item_places pairing ≡ false) × (places_differ page_places item_places pairing ≡ false) × (bound_exceeds kind page item pairing ≡ false)
   none_lacks v =
       let count : length pairing ≡ length page_places = v.count in (
-        or_from (not (eqb (length pairing) (length page_places))) (some_below (length pairing) (partner_unsound (length item_places) pairing))
+        or_from (not (eqb (length pairing) (length page_places))) (list_any (partner_unsound (length item_places) pairing) (range_with_len 0 (length pairing)))
             (not_from_true _ (eq-eqb (length pairing) (length page_places) count))
             (none_unsound (length item_places) pairing v.partners v.distinct),
         none_differ page_places item_places pairing v.places,

@@ -1,70 +1,31 @@
 -- Sifted tokens, one more at a time. Assumes nothing.
-use Rattle.std.proofs.Common.{◌≡◌, ℕ, zero, suc, ◌+◌, ◌<◌, ◌≤◌, Bool, true, false, cond, ◌||◌, eqb, ◌⊎◌, List, [], ◌∷◌, ◌++◌, length, get_or, set, sym, refl, ap, ◌∙◌, inl, inr, ⊎_elim, arith}
-use Rattle.std.proofs.lemmas.List.{take_more_set, append-nil, length-set, length-take-le, get_or-take}
-use Rattle.std.proofs.lemmas.Bool.{cond-true, cond-false, cond_both, eq-eqb, false≢true, cases_eq}
+use Rattle.std.proofs.Common.{◌≡◌, ℕ, zero, suc, ◌+◌, ◌-◌, ◌<◌, ◌≤◌, Bool, true, false, cond, ◌||◌, eqb, ◌⊎◌, List, [], ◌∷◌, ◌++◌, length, sym, refl, ap, ◌∙◌, inl, inr, ⊎_elim, arith}
+use Rattle.std.proofs.lemmas.List.{append_assoc}
+use Rattle.std.proofs.lemmas.Bool.{cond_both, eq-eqb, false≢true, cases_eq}
 use Rattle.walks.specs.Walks.{Inside}
 use Rattle.zones.specs.Predecessors.{among, others}
-use Rattle.cells.specs.Sifted.{agrees, sifted, Lists}
+use Rattle.cells.specs.Sifted.{agrees, sifted}
 
 or_right : (a b : Bool) → b ≡ true → (a || b) ≡ true
 or_right true b h = refl
 or_right false b h = h
 
--- what the next token adds
-abbrev last : Bool → List ℕ → ℕ → List ℕ
-last matched ms token = cond (agrees (among token ms) matched) (token ∷ []) []
+-- a token is taken or passed over, and those after it follow
+pub sifted_step : (matched : Bool) (ms taken : List ℕ) (token end : ℕ) → token < end → (hit : Bool) → agrees (among token ms) matched ≡ hit → cond hit (taken ++ token ∷ []) taken ++ sifted matched ms (token + 1) (end - (token + 1)) ≡ taken ++ sifted matched ms token (end - token)
+sifted_step matched ms taken token end here hit is =
+    let next : token + 1 ≡ suc token = omega arith in
+    let left : end - token ≡ suc (end - (token + 1)) = omega (arith, here) in
+    ap (λ t. cond hit (taken ++ token ∷ []) taken ++ sifted matched ms t (end - (token + 1))) next
+    ∙ either hit
+    ∙ ap (λ t. taken ++ cond t (token ∷ rest) rest) (sym is)
+    ∙ ap (λ n. taken ++ sifted matched ms token n) (sym left)
+  where
+    rest : List ℕ
+    rest = sifted matched ms (suc token) (end - (token + 1))
 
-either : (t : Bool) (x : ℕ) (xs ys : List ℕ) → cond t (x ∷ (xs ++ ys)) (xs ++ ys) ≡ cond t (x ∷ xs) xs ++ ys
-either true x xs ys = refl
-either false x xs ys = refl
-
--- the last one stands at the end
-sifted-after : (matched : Bool) (ms : List ℕ) (first n : ℕ) → sifted matched ms first (suc n) ≡ sifted matched ms first n ++ last matched ms (first + n)
-sifted-after matched ms first zero = let e : first ≡ first + 0 = omega arith in ap (last matched ms) e
-sifted-after matched ms first (suc n) =
-    let e : suc first + n ≡ first + suc n = omega arith in
-    let t = agrees (among first ms) matched in
-    ap (λ xs. cond t (first ∷ xs) xs) (sifted-after matched ms (suc first) n ∙ ap (λ k. sifted matched ms (suc first) n ++ last matched ms k) e)
-    ∙ either t first (sifted matched ms (suc first) n) (last matched ms (first + suc n))
-
-sifted_more : (matched : Bool) (ms : List ℕ) (n : ℕ) → sifted matched ms 1 (n + 1) ≡ sifted matched ms 1 n ++ last matched ms (n + 1)
-sifted_more matched ms n =
-    let e : n + 1 ≡ suc n = omega arith in
-    let f : 1 + n ≡ n + 1 = omega arith in
-    ap (sifted matched ms 1) e ∙ sifted-after matched ms 1 n ∙ ap (λ k. sifted matched ms 1 n ++ last matched ms k) f
-
-module _ (matched : Bool) (ms : List ℕ) (n count : ℕ) (at : List ℕ) (so_far : Lists (0 ∷ sifted matched ms 1 n) count at) where
-  pub sifted_yes : count < 13 → agrees (among (n + 1) ms) matched ≡ true → Lists (0 ∷ sifted matched ms 1 (n + 1)) (count + 1) (set at count (n + 1))
-  sifted_yes room hit =
-      record {
-        long = length-set at count (n + 1) ∙ so_far.long;
-        few = omega (arith, room);
-        is =
-            take_more_set at count (n + 1) (omega (arith, room, so_far.long))
-            ∙ ap (λ xs. xs ++ (n + 1) ∷ []) so_far.is
-            ∙ ap (λ xs. (0 ∷ sifted matched ms 1 n) ++ xs) (sym (cond-true (agrees (among (n + 1) ms) matched) ((n + 1) ∷ []) [] hit))
-            ∙ ap (λ xs. 0 ∷ xs) (sym (sifted_more matched ms n));
-      }
-
-  pub sifted_no : agrees (among (n + 1) ms) matched ≡ false → Lists (0 ∷ sifted matched ms 1 (n + 1)) count at
-  sifted_no miss =
-      record {
-        long = so_far.long;
-        few = so_far.few;
-        is =
-            so_far.is
-            ∙ sym (append-nil (0 ∷ sifted matched ms 1 n))
-            ∙ ap (λ xs. (0 ∷ sifted matched ms 1 n) ++ xs) (sym (cond-false (agrees (among (n + 1) ms) matched) ((n + 1) ∷ []) [] miss))
-            ∙ ap (λ xs. 0 ∷ xs) (sym (sifted_more matched ms n));
-      }
-
-pub lists_count : (points : List ℕ) (count : ℕ) (at : List ℕ) → Lists points count at → count ≡ length points
-lists_count points count at lists =
-    let e = ap length lists.is in
-    omega (arith, e, length-take-le count at (omega (arith, lists.few, lists.long)))
-
-pub lists_at : (points : List ℕ) (count : ℕ) (at : List ℕ) (j : ℕ) → Lists points count at → j < count → get_or at j 0 ≡ get_or points j 0
-lists_at points count at j lists here = sym (get_or-take count at j 0 here) ∙ ap (λ xs. get_or xs j 0) lists.is
+    either : (t : Bool) → cond t (taken ++ token ∷ []) taken ++ rest ≡ taken ++ cond t (token ∷ rest) rest
+    either true = append_assoc taken (token ∷ []) rest
+    either false = refl
 
 pub sifted_few : (matched : Bool) (ms : List ℕ) (first n : ℕ) → length (sifted matched ms first n) ≤ n
 sifted_few matched ms first zero = omega arith

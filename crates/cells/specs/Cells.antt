@@ -31,6 +31,10 @@ put j i b cells = slice_set cells (13 * j + i) b
 abbrev pub lowered : {B : Type 0} → Kind B → ℕ → ℕ → B → List B → List B
 lowered kind j i b cells = put j i (lesser kind (in_draft kind cells j i) b) cells
 
+-- ---- the bounds of so many points, row by row
+abbrev pub written : {B : Type 0} → Matrix B → ℕ → List B → List B
+written bounds points cells = times points (λ j c. times points (λ i d. put j i (bounds j i) d) c) cells
+
 -- ---- a page's zone
 abbrev pub loaded_row : {B : Type 0} → Kind B → List B → ℕ → ℕ → List B → List B
 loaded_row kind page points j cells = times points (λ i c. put j i (in_page kind page j i) c) cells

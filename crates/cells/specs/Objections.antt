@@ -3,17 +3,13 @@
 --     item      the zone that it is to vouch for, in a draft
 --     pairing   for each token of the page a token of the item
 -- Assumes nothing.
-use Rattle.std.specs.Prelude.{ℕ, zero, suc, Bool, false, not, ◌&&◌, ◌||◌, List, length, ◌==◌, nat_eq, nat_lt, slice_index}
+use Rattle.std.specs.Prelude.{ℕ, ◌+◌, Bool, not, ◌&&◌, ◌||◌, List, length, ◌==◌, nat_eq, nat_lt, slice_index}
+use Rattle.std.specs.List.{list_any, range_with_len}
 use Rattle.bounds.specs.Kinds.{Kind}
 use Rattle.nets.specs.Nets.{numbered}
 use Rattle.zones.specs.Vouching.{partner}
 use Rattle.zones.specs.Zones.{Zone}
 use Rattle.cells.specs.Cells.{in_page, in_draft}
-
--- p holds of some number below n
-unfoldable pub some_below : ℕ → (ℕ → Bool) → Bool
-some_below zero p = false
-some_below (suc n) p = some_below n p || p n
 
 -- ---- partners; tokens are counted from 0 here
 abbrev pub no_partner : ℕ → ℕ → Bool
@@ -21,32 +17,32 @@ no_partner count p = p == 0 || nat_lt count p
 
 -- an earlier token has the same partner
 abbrev pub partner_taken : List ℕ → ℕ → Bool
-partner_taken pairing k = some_below k (λ i. nat_eq (slice_index pairing i) (slice_index pairing k))
+partner_taken pairing k = list_any (λ i. nat_eq (slice_index pairing i) (slice_index pairing k)) (range_with_len 0 k)
 
 abbrev pub partner_unsound : ℕ → List ℕ → ℕ → Bool
 partner_unsound count pairing k = no_partner count (slice_index pairing k) || partner_taken pairing k
 
 -- not one partner for each token, one that is no token of the item, or one twice
 abbrev pub partners_unsound : List ℕ → List ℕ → List ℕ → Bool
-partners_unsound page_places item_places pairing = not (length pairing == length page_places) || some_below (length pairing) (partner_unsound (length item_places) pairing)
+partners_unsound page_places item_places pairing = not (length pairing == length page_places) || list_any (partner_unsound (length item_places) pairing) (range_with_len 0 (length pairing))
 
 -- ---- places
 abbrev pub place_differs : List ℕ → List ℕ → List ℕ → ℕ → Bool
 place_differs page_places item_places pairing k = not (numbered item_places (slice_index pairing k) 0 == slice_index page_places k)
 
 abbrev pub places_differ : List ℕ → List ℕ → List ℕ → Bool
-places_differ page_places item_places pairing = some_below (length pairing) (place_differs page_places item_places pairing)
+places_differ page_places item_places pairing = list_any (place_differs page_places item_places pairing) (range_with_len 0 (length pairing))
 
 -- ---- bounds
 abbrev pub exceeds : {B : Type 0} → Kind B → List B → List B → List ℕ → ℕ → ℕ → Bool
 exceeds kind page item pairing j i = not (j == i) && not (kind.at_most (in_draft kind item (partner pairing j) (partner pairing i)) (in_page kind page j i))
 
 abbrev pub exceeds_in_row : {B : Type 0} → Kind B → List B → List B → List ℕ → ℕ → Bool
-exceeds_in_row kind page item pairing j = some_below (suc (length pairing)) (exceeds kind page item pairing j)
+exceeds_in_row kind page item pairing j = list_any (exceeds kind page item pairing j) (range_with_len 0 (length pairing + 1))
 
 -- some bound of the item is larger than the page's
 abbrev pub bound_exceeds : {B : Type 0} → Kind B → List B → List B → List ℕ → Bool
-bound_exceeds kind page item pairing = some_below (suc (length pairing)) (exceeds_in_row kind page item pairing)
+bound_exceeds kind page item pairing = list_any (exceeds_in_row kind page item pairing) (range_with_len 0 (length pairing + 1))
 
 -- ---- the two zones
 abbrev pub page_zone : {B : Type 0} → Kind B → List ℕ → List B → Zone B

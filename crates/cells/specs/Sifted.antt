@@ -1,5 +1,5 @@
 -- The tokens of a zone that a matching names, or those that it does not. Assumes nothing.
-use Rattle.std.specs.Prelude.{◌≡◌, ℕ, zero, suc, ◌≤◌, Bool, cond, not, List, [], ◌∷◌, length, take}
+use Rattle.std.specs.Prelude.{ℕ, zero, suc, Bool, cond, not, List, [], ◌∷◌}
 use Rattle.zones.specs.Predecessors.{among}
 
 abbrev pub agrees : Bool → Bool → Bool
@@ -9,9 +9,3 @@ agrees a b = cond a b (not b)
 abbrev pub sifted : Bool → List ℕ → ℕ → ℕ → List ℕ
 sifted matched matching first zero = []
 sifted matched matching first (suc n) = cond (agrees (among first matching) matched) (first ∷ sifted matched matching (suc first) n) (sifted matched matching (suc first) n)
-
--- 13 bytes, the first of which are these points
-pub record Lists (points : List ℕ) (count : ℕ) (at : List ℕ) : Type 0 where
-  pub long : length at ≡ 13
-  pub few : count ≤ 13
-  pub is : take count at ≡ points

@@ -1,7 +1,7 @@
 -- What compact bounds mean: one integer, the bound's place in the order, or the largest 64-bit integer for no limit.
 --     half, even     of a place: the number, and whether it is strict
 -- Assumes nothing.
-use Rattle.std.specs.Prelude.{◌≡◌, ◌-◌, ◌%◌, ◌^◌, ◌≤◌, Bool, true, false, cond, ℤ, pos, negsuc, Some, None, Option, ◌==◌, unsigned_abs, refl}
+use Rattle.std.specs.Prelude.{◌≡◌, ◌-◌, ◌%◌, ◌^◌, ◌≤◌, Bool, true, false, cond, ℤ, pos, negsuc, ◌==◌, unsigned_abs, refl}
 use Rattle.std.proofs.Common.{arith, ap, ◌∙◌}
 use Rattle.std.proofs.lemmas.Int.{ints}
 use Rattle.std.specs.Int.Signed.{shr_z}
@@ -29,11 +29,6 @@ compact_limit z = cond (is_no_limit z) unlimited (number (half z) (even z))
 abbrev pub compact_of : Limit → ℤ
 compact_of (number c s) = place c s
 compact_of unlimited = pos (2 ^ 63 - 1)
-
--- the limit that a number with its mark, or none, stands for
-abbrev pub limit_of : Option (ℤ × Bool) → Limit
-limit_of (Some p) = number p.0 p.1
-limit_of None = unlimited
 
 -- ---- a place has one number and one mark
 place_by : (z : ℤ) (s : Bool) → even z ≡ s → place (half z) s ≡ z

@@ -3,17 +3,15 @@
 
 ghost use Rattle.bounds.specs.Limits.{capped};
 ghost use Rattle.bounds.specs.Texts.{limit_text};
-ghost use Rattle.compact.specs.CompactKind.{compact_kind, compact_limit, compact_of, limit_of};
+ghost use Rattle.bounds.specs.MarkedKind.{marked_limit};
+ghost use Rattle.compact.specs.CompactKind.{compact_kind, compact_limit, compact_of};
 ghost use Rattle.std.specs.Prelude.{◌≡◌, Some};
 
-use bounds::{Bound, LARGEST_NUMBER, MakeError};
+use bounds::{Bound, LARGEST_SIZE, MakeError, MarkedNumber, within_limits};
 use std::fmt;
 
 // No limit lies above every number.
 const NO_LIMIT: i64 = i64::MAX;
-
-// A sum that lies further from zero is no limit.
-const LARGEST_SIZE: i64 = 1 << 40;
 
 // 2c stands for c strict, and 2c + 1 for c, so bounds compare as integers do.
 #[derive(Clone, Copy, PartialEq, Eq, Debug)]
@@ -23,29 +21,23 @@ pub struct CompactBound {
 
 impl CompactBound {
     // The bound of a number, or no limit where the number is too large.
-    fn of_number(number: i64, strict: bool) -> CompactBound
-        ensures { result.raw ≡ compact_of (capped number strict) }
+    fn of_number(limit: MarkedNumber) -> CompactBound
+        ensures { result.raw ≡ compact_of (capped limit.number limit.strict) }
     {
-        if number < -LARGEST_SIZE || LARGEST_SIZE < number {
-            CompactBound::no_limit()
-        } else if strict {
-            CompactBound { raw: 2 * number }
-        } else {
-            CompactBound {
-                raw: 2 * number + 1,
-            }
+        if !(-LARGEST_SIZE..=LARGEST_SIZE).contains(&limit.number) {
+            return CompactBound::no_limit();
         }
+        let raw = 2 * limit.number + i64::from(!limit.strict);
+        CompactBound { raw }
     }
 
-    // The number and whether it is strict, unless there is no limit.
-    fn limit(self) -> Option<(i64, bool)>
-        ensures { compact_limit self.raw ≡ limit_of result }
+    // The number with its mark, unless there is no limit.
+    fn limit(self) -> Option<MarkedNumber>
+        ensures { compact_limit self.raw ≡ marked_limit result }
     {
-        if self.raw == NO_LIMIT {
-            None
-        } else {
-            Some((self.raw >> 1, self.raw % 2 == 0))
-        }
+        let number = self.raw >> 1;
+        let strict = self.raw % 2 == 0;
+        (self.raw != NO_LIMIT).then_some(MarkedNumber { number, strict })
     }
 }
 
@@ -53,7 +45,10 @@ impl Bound for CompactBound {
     ghost kind = { compact_kind };
 
     fn zero() -> CompactBound {
-        CompactBound::of_number(0, false)
+        CompactBound::of_number(MarkedNumber {
+            number: 0,
+            strict: false,
+        })
     }
 
     fn no_limit() -> CompactBound {
@@ -61,22 +56,23 @@ impl Bound for CompactBound {
     }
 
     fn make(number: i32, strict: bool) -> Result<CompactBound, MakeError> {
-        if number < -LARGEST_NUMBER || LARGEST_NUMBER < number {
-            return Err(MakeError::OutsideLimits);
-        }
-        Ok(CompactBound::of_number(i64::from(number), strict))
+        let number = within_limits(number)?;
+        Ok(CompactBound::of_number(MarkedNumber { number, strict }))
     }
 
     // Two tests in a row compile to less than one match on the pair.
     fn sum(self, other: CompactBound) -> CompactBound {
-        let Some((a, s)) = self.limit() else {
+        let Some(a) = self.limit() else {
             return CompactBound::no_limit();
         };
-        let Some((b, t)) = other.limit() else {
+        let Some(b) = other.limit() else {
             return CompactBound::no_limit();
         };
         // each is half an i64, so their sum fits
-        CompactBound::of_number(a + b, s | t)
+        CompactBound::of_number(MarkedNumber {
+            number: a.number + b.number,
+            strict: a.strict | b.strict,
+        })
     }
 
     fn at_most(self, other: CompactBound) -> bool {
@@ -84,21 +80,17 @@ impl Bound for CompactBound {
     }
 
     fn allows(self, difference: i64) -> bool {
-        match self.limit() {
-            Some((number, true)) => difference < number,
-            Some((number, false)) => difference <= number,
-            None => true,
-        }
+        self.limit().is_none_or(|c| c.allows(difference))
     }
 }
 
+// Each kind says this for itself, as marked bounds do.
 impl fmt::Display for CompactBound {
     ghost output = { λ b. Some (limit_text (compact_limit b.raw)) };
 
     fn fmt<W: fmt::Write>(&self, f: &mut fmt::Formatter<W>) -> fmt::Result {
         match self.limit() {
-            Some((number, true)) => write!(f, "<{number}"),
-            Some((number, false)) => write!(f, "{number}"),
+            Some(limit) => write!(f, "{limit}"),
             None => write!(f, "no limit"),
         }
     }

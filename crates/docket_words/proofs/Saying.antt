@@ -6,16 +6,19 @@ use Rattle.bounds.specs.Kinds.{Kind}
 use Rattle.entries.specs.DocketRecords.{docket_header}
 use Rattle.entries.specs.ZoneRecords.{wrong_length}
 use Rattle.entries.specs.declared.docket.DocketHeader.{DocketHeader}
-use Rattle.entries.specs.declared.fault.EntryFault.{EntryFault}
+use Rattle.entries.specs.Refusals.{EntryFault}
 use Rattle.entries.specs.declared.fault.EntryRefusal.{EntryRefusal}
 use Rattle.entries.specs.declared.fault.EntryRefusal.TheVariants.{WrongLength}
-use Rattle.pages.specs.declared.tokens.Tokens.{Tokens}
+use Rattle.arrayvec.specs.ArrayVec.{ArrayVec}
 use Rattle.records.specs.Parts.{Parted}
 use Rattle.records.specs.declared.fault.Missing.{Missing}
 use Rattle.records.specs.declared.reader.Part.{Part}
-use Rattle.docket_words.specs.Initial.{placed, head_line}
+use Rattle.docket_words.specs.Ends.{Ends}
+use Rattle.docket_words.specs.Initial.{placed, head_line, refusal_line}
 use Rattle.docket_words.specs.Told.{SaidAfter, ZoneTold, ZonesTold, MarkingTold, told_after, DocketTold}
 use Rattle.docket_words.specs.Written.{ZoneRead, ZoneWritten}
+use Rattle.docket_words.specs.declared.teller.Ended.{Ended}
+use Rattle.docket_words.specs.declared.teller.Ended.TheVariants.{NoMemory, Refused}
 
 -- ---- a record that is cut short
 pub cut_short : (rest : List ℕ) → length rest < 192 → wrong_length (take 192 rest) ≡ true
@@ -50,8 +53,8 @@ passed_all whole passed rest t k end cut so_far =
     so_far ∙ ap (λ m. drop (41 * m) passed) end ∙ ap (drop (41 * t)) cut ∙ drop-drop (41 * t) 4 whole
 
 module _ {B : Type 0} (kind : Kind B) (places : ℕ) where
-  pub missing_said : (known : Option EntryRefusal) (rest : List ℕ) (cells : List B) → length rest < 192 → SaidAfter kind places known (take 192 rest) cells (Err WrongLength)
-  missing_said None rest cells h =
+  pub missing_said : (known : Result Unit EntryRefusal) (rest : List ℕ) (cells : List B) → length rest < 192 → SaidAfter kind places known (take 192 rest) cells (Err WrongLength)
+  missing_said (Ok clean) rest cells h =
       let bytes = take 192 rest in
       let short = cut_short rest h in
       record {
@@ -59,24 +62,30 @@ module _ {B : Type 0} (kind : Kind B) (places : ℕ) where
         taken = λ e. absurd (never_none (wrong_length bytes) WrongLength _ short e);
         settled = λ e. absurd (never_none (wrong_length bytes) WrongLength _ short e);
       }
-  missing_said (Some known) rest cells h = ap (λ (t : Bool). Err (cond t WrongLength known)) (sym (cut_short rest h))
+  missing_said (Err known) rest cells h = ap (λ (t : Bool). Err (cond t WrongLength known)) (sym (cut_short rest h))
 
-  pub missing_read : (known : Option EntryRefusal) (at next : ℕ) (rest left : List ℕ) (cells : List B) (fault : EntryFault) (m : ℕ) (r : Result Tokens EntryFault) → length rest < 192 → m ≡ at → fault ≡ record { refusal = WrongLength; at = m } → r ≡ Err fault → ZoneRead kind places known at rest cells next left r
+  pub missing_read : (known : Result Unit EntryRefusal) (at next : ℕ) (rest left : List ℕ) (cells : List B) (fault : EntryFault) (m : ℕ) (r : Result (ArrayVec ℕ) EntryFault) → length rest < 192 → m ≡ at → fault ≡ record { refusal = WrongLength; at = m } → r ≡ Err fault → ZoneRead kind places known at rest cells next left r
   missing_read known at next rest left cells fault m r h same is e =
-      subst (λ (q : Result Tokens EntryFault). ZoneRead kind places known at rest cells next left q) (sym (e ∙ ap Err is)) (missing_said known rest cells h, same)
+      subst (λ (q : Result (ArrayVec ℕ) EntryFault). ZoneRead kind places known at rest cells next left q) (sym (e ∙ ap Err is)) (missing_said known rest cells h, same)
+
+  pub zone_read : (known : Result Unit EntryRefusal) (at next : ℕ) (rest left : List ℕ) (cells : List B) (r : Result (ArrayVec ℕ) EntryRefusal) (q : Result (ArrayVec ℕ) EntryFault) → SaidAfter kind places known (take 192 rest) cells r → next ≡ at + 1 → left ≡ drop 192 rest → q ≡ placed at r → ZoneRead kind places known at rest cells next left q
+  zone_read known at next rest left cells (Ok tokens) q said one cut is =
+      subst (λ (p : Result (ArrayVec ℕ) EntryFault). ZoneRead kind places known at rest cells next left p) (sym is) (said, one, cut)
+  zone_read known at next rest left cells (Err refusal) q said one cut is =
+      subst (λ (p : Result (ArrayVec ℕ) EntryFault). ZoneRead kind places known at rest cells next left p) (sym is) (said, refl)
 
 module _ {B : Type 0} (kind : Kind B) (words : B → List ℕ) (places : ℕ) where
-  -- ---- a zone that was written, and more after it
-  pub told_more : (known : Option EntryRefusal) (number at next : ℕ) (rest left before middle after : List ℕ) (went : Bool) (more : ℕ → List ℕ → List ℕ → Type 0) → went ≡ true → ZoneWritten kind words places known number at rest before middle next left went → more next left middle → ZoneTold kind words places known number at rest before after (λ so_far. more (at + 1) (drop 192 rest) so_far)
-  told_more known number at next rest left before middle after false more e w h = let z : ◌≡◌ {A = ℕ} 0 1 = cc in absurd (omega arith)
-  told_more known number at next rest left before middle after true more e w h =
-      let one = subst (λ (k : ℕ). more k left middle) w.4 h in
-      let cut = subst (λ (xs : List ℕ). more (at + 1) xs middle) w.5 one in
-      (Ok w.0, w.1, w.2, subst (λ (t : List ℕ). more (at + 1) (drop 192 rest) t) w.3 cut)
+  -- ---- a zone that was told, and more after it
+  module _ (known : Result Unit EntryRefusal) (number at next : ℕ) (rest left before middle after : List ℕ) where
+    pub told_more : (done : Unit {0}) (more : ℕ → List ℕ → List ℕ → Type 0) → ZoneWritten kind words places known number at rest before middle next left (Ok done) → more next left middle → ZoneTold kind words places known number at rest before after (λ so_far. more (at + 1) (drop 192 rest) so_far)
+    told_more done more w h =
+        let one = subst (λ (k : ℕ). more k left middle) w.4 h in
+        let cut = subst (λ (xs : List ℕ). more (at + 1) xs middle) w.5 one in
+        (Ok w.0, w.1, w.2, subst (λ (t : List ℕ). more (at + 1) (drop 192 rest) t) w.3 cut)
 
-  pub told_fault : (known : Option EntryRefusal) (number at next : ℕ) (rest left before after : List ℕ) (went : Bool) (more : List ℕ → Type 0) → went ≡ false → ZoneWritten kind words places known number at rest before after next left went → ZoneTold kind words places known number at rest before after more
-  told_fault known number at next rest left before after true more e w = let z : ◌≡◌ {A = ℕ} 0 1 = cc in absurd (omega arith)
-  told_fault known number at next rest left before after false more e w = (Err w.0, w.1, w.2, w.3)
+    pub told_fault : (fault : EntryFault) (more : List ℕ → Type 0) → ZoneWritten kind words places known number at rest before middle next left (Err (Refused fault)) → ZoneTold kind words places known number at rest before (middle ++ refusal_line fault) more
+    told_fault fault more w =
+        (Err fault.refusal, w.0, w.1, ap (λ (t : List ℕ). t ++ refusal_line fault) w.3 ∙ ap (λ (k : ℕ). before ++ refusal_line (record { refusal = fault.refusal; at = k })) w.2)
 
   -- ---- the zones from k on finish what all of them say
   abbrev pub Going : ℕ → ℕ → List ℕ → List ℕ → ℕ → ℕ → List ℕ → List ℕ → Type 0
@@ -94,13 +103,20 @@ module _ {B : Type 0} (kind : Kind B) (words : B → List ℕ) (places : ℕ) wh
         let e : suc (n - (k + 1)) ≡ n - k = omega arith in
         so_far after (subst (λ (m : ℕ). ZonesTold kind words places m (k + 1) next rest text after) e h)
 
-    pub going_on : (next' : ℕ) (rest' text' : List ℕ) (went : Bool) → went ≡ true → ZoneWritten kind words places None (k + 1) next rest text text' next' rest' went → Going n at rest₀ text₀ (k + 1) next' rest' text'
-    going_on next' rest' text' went e w after h =
-        one_more after (told_more None (k + 1) next next' rest rest' text text' after went (λ j xs t. ZonesTold kind words places (n - (k + 1)) (k + 1 + 1) j xs t after) e w h)
+    pub going_on : (next' : ℕ) (rest' text' : List ℕ) (done : Unit {0}) → ZoneWritten kind words places (Ok tt) (k + 1) next rest text text' next' rest' (Ok done) → Going n at rest₀ text₀ (k + 1) next' rest' text'
+    going_on next' rest' text' done w after h =
+        one_more after (told_more (Ok tt) (k + 1) next next' rest rest' text text' after done (λ j xs t. ZonesTold kind words places (n - (k + 1)) (k + 1 + 1) j xs t after) w h)
 
-    pub going_fault : (next' : ℕ) (rest' text' : List ℕ) (went : Bool) → went ≡ false → ZoneWritten kind words places None (k + 1) next rest text text' next' rest' went → ZonesTold kind words places n 1 at rest₀ text₀ text'
-    going_fault next' rest' text' went e w =
-        one_more text' (told_fault None (k + 1) next next' rest rest' text text' went (λ t. ZonesTold kind words places (n - (k + 1)) (k + 1 + 1) (next + 1) (drop 192 rest) t text') e w)
+    pub going_fault : (next' : ℕ) (rest' text' : List ℕ) (fault : EntryFault) → ZoneWritten kind words places (Ok tt) (k + 1) next rest text text' next' rest' (Err (Refused fault)) → ZonesTold kind words places n 1 at rest₀ text₀ (text' ++ refusal_line fault)
+    going_fault next' rest' text' fault w =
+        let last = text' ++ refusal_line fault in
+        one_more last (told_fault (Ok tt) (k + 1) next next' rest rest' text text' last fault (λ t. ZonesTold kind words places (n - (k + 1)) (k + 1 + 1) (next + 1) (drop 192 rest) t last) w)
+
+    pub going_out : (e : Ended) (next' : ℕ) (rest' text' : List ℕ) (r : Result Unit Ended) (f : Ended) → ZoneWritten kind words places (Ok tt) (k + 1) next rest text text' next' rest' (Err e) → r ≡ Err f → f ≡ e → Ends r (ZonesTold kind words places n 1 at rest₀ text₀) text'
+    going_out (Refused fault) next' rest' text' r f w is same =
+        subst (λ (q : Result Unit Ended). Ends q (ZonesTold kind words places n 1 at rest₀ text₀) text') (sym (is ∙ ap Err same)) (going_fault next' rest' text' fault w)
+    going_out (NoMemory m) next' rest' text' r f w is same =
+        subst (λ (q : Result Unit Ended). Ends q (ZonesTold kind words places n 1 at rest₀ text₀) text') (sym (is ∙ ap Err same)) tt
 
   pub going_all : (n at : ℕ) (rest₀ text₀ : List ℕ) (k next : ℕ) (rest text : List ℕ) → k ≡ n → Going n at rest₀ text₀ k next rest text → ZonesTold kind words places n 1 at rest₀ text₀ text
   going_all n at rest₀ text₀ k next rest text end so_far =

@@ -1,10 +1,17 @@
 -- Steps of the walk through the initial tokens. Assumes nothing.
-use Rattle.std.proofs.Common.{◌≡◌, ℕ, suc, ◌+◌, ◌-◌, ◌<◌, Bool, true, false, cond, ◌||◌, leb, List, ◌++◌, take, drop, Ok, Err, Option, Result, sym, refl, ap, ◌∙◌, subst, append_assoc, append-nil, arith}
+use Rattle.std.proofs.Math.Bool.{or_assoc}
+use Rattle.std.proofs.Common.{◌≡◌, ℕ, suc, ◌+◌, ◌-◌, ◌<◌, Bool, true, false, cond, ◌||◌, leb, List, ◌++◌, take, drop, Ok, Err, Result, sym, refl, ap, ◌∙◌, subst, append_assoc, append-nil, arith}
+use Rattle.std.proofs.lemmas.Result.{err_from_is_err_and}
+use Rattle.std.specs.Result.{MatchResult, IsErrAnd}
 use Rattle.entries.specs.DocketRecords.{initial_token, token_of, token_spare}
-use Rattle.entries.specs.declared.fault.EntryFault.{EntryFault}
+use Rattle.entries.specs.Refusals.{EntryFault}
 use Rattle.entries.specs.declared.fault.EntryRefusal.{EntryRefusal}
 use Rattle.entries.specs.declared.token.InitialToken.{InitialToken}
-use Rattle.docket_words.specs.Initial.{Stepped, placed, initial_line, refusal_line, is_read, token_text_by, tokens_text, tokens_read, some_outside, after_tokens, TokensRead, TokensRefused}
+use Rattle.docket_words.specs.Ends.{Stepped}
+use Rattle.docket_words.specs.Written.{TokensTold}
+use Rattle.docket_words.specs.declared.teller.Ended.{Ended}
+use Rattle.docket_words.specs.declared.teller.Ended.TheVariants.{NoMemory, Refused}
+use Rattle.docket_words.specs.Initial.{placed, initial_line, refusal_line, is_read, token_text_by, tokens_text, tokens_read, some_outside, after_tokens, TokensRead, TokensRefused}
 
 -- ---- what a record that was placed says
 pub placed_ok : {X : Type 0} (at : ℕ) (r : Result X EntryRefusal) (x : X) → placed at r ≡ Ok x → r ≡ Ok x
@@ -15,6 +22,11 @@ pub placed_err : {X : Type 0} (at : ℕ) (r : Result X EntryRefusal) (f : EntryF
 placed_err at (Ok y) f later e = let z : ◌≡◌ {A = ℕ} 0 1 = cc in absurd (omega arith)
 placed_err at (Err refusal) f later e = refl
 
+-- a refusal that was given the number of its record
+pub placed_from : {X : Type 0} (P : EntryRefusal → EntryFault → Type 0) (at : ℕ) (r : Result X EntryRefusal) (q : Result X EntryFault) → MatchResult r (λ x. q ≡ Ok x) (λ e. IsErrAnd q (P e)) → ((e : EntryRefusal) (f : EntryFault) → P e f → f ≡ record { refusal = e; at = at }) → q ≡ placed at r
+placed_from P at (Ok x) q h each = h
+placed_from P at (Err e) q h each = let p = err_from_is_err_and q h in p.1 ∙ ap Err (each e p.0 p.2)
+
 by_tests : {X : Type 0} (t spare : Bool) (a b : EntryRefusal) (x y : X) → cond t (Err a) (cond spare (Err b) (Ok x)) ≡ Ok y → x ≡ y
 by_tests true spare a b x y e = let z : ◌≡◌ {A = ℕ} 0 1 = cc in absurd (omega arith)
 by_tests false true a b x y e = let z : ◌≡◌ {A = ℕ} 0 1 = cc in absurd (omega arith)
@@ -22,13 +34,6 @@ by_tests false false a b x y e = cc
 
 pub token_is : (bytes : List ℕ) (token : InitialToken) → initial_token bytes ≡ Ok token → token_of bytes ≡ token
 token_is bytes token e = by_tests _ (token_spare bytes) _ _ (token_of bytes) token e
-
-pub stepped_at : {X : Type 0} (read : Result X EntryFault) (words : X → List ℕ) (before after : List ℕ) (o p : Option X) → o ≡ p → Stepped read words before after o → Stepped read words before after p
-stepped_at read words before after o p e h = subst (λ q. Stepped read words before after q) e h
-
-or_assoc : (a b c : Bool) → ((a || b) || c) ≡ (a || (b || c))
-or_assoc true b c = refl
-or_assoc false b c = refl
 
 -- the tokens from here on have the text, the faults and the places that all of them have
 pub record Walked (places n at : ℕ) (rest₀ text₀ : List ℕ) (k next : ℕ) (rest text : List ℕ) (outside : Bool) : Type 0 where
@@ -94,6 +99,13 @@ module _ (places n at : ℕ) (rest₀ text₀ : List ℕ) (k next : ℕ) (rest t
             ∙ ap (λ j. text ++ tokens_text j (k + 1) next rest) (sym one_more)
             ∙ so_far.written;
       }
+
+  -- a token's fault, or memory that ran out, handed on
+  pub walked_out : (e : Ended) (next' : ℕ) (rest' text' : List ℕ) (r : Result Bool Ended) (f : Ended) → Stepped (placed next (initial_token (take 3 rest))) (initial_line (k + 1)) text text' (Err e) → r ≡ Err f → f ≡ e → TokensTold places n at rest₀ text₀ text' next' rest' r
+  walked_out (Refused fault) next' rest' text' r f h is same =
+      subst (λ (q : Result Bool Ended). TokensTold places n at rest₀ text₀ text' next' rest' q) (sym (is ∙ ap Err same)) (walked_fault fault (text' ++ refusal_line fault) h.0 (ap (λ t. t ++ refusal_line fault) h.1))
+  walked_out (NoMemory m) next' rest' text' r f h is same =
+      subst (λ (q : Result Bool Ended). TokensTold places n at rest₀ text₀ text' next' rest' q) (sym (is ∙ ap Err same)) tt
 
 pub walked_all : (places n at : ℕ) (rest₀ text₀ : List ℕ) (k next : ℕ) (rest text : List ℕ) (outside : Bool) → k ≡ n → Walked places n at rest₀ text₀ k next rest text outside → TokensRead places n at rest₀ text₀ text next rest outside
 walked_all places n at rest₀ text₀ k next rest text outside end w =

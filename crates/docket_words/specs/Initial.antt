@@ -1,10 +1,9 @@
 -- The docket header and the initial tokens of bytes, written for people record by record; a fault ends the text.
 -- Assumes nothing.
-use Rattle.std.specs.Prelude.{◌≡◌, ℕ, zero, suc, ◌+◌, Bool, true, false, ◌||◌, List, [], ◌∷◌, ◌++◌, take, drop, Some, None, Ok, Err, codes, Option, Result, nat_le}
+use Rattle.std.specs.Prelude.{◌≡◌, ℕ, zero, suc, ◌+◌, Bool, true, false, ◌||◌, List, [], ◌∷◌, ◌++◌, take, drop, Ok, Err, codes, Result, nat_le}
 use Rattle.entries.specs.DocketRecords.{initial_token, token_of}
-use Rattle.entries.specs.Refusals.{entry_fault_text}
+use Rattle.entries.specs.Refusals.{EntryFault, entry_fault_text}
 use Rattle.entries.specs.declared.docket.DocketHeader.{DocketHeader}
-use Rattle.entries.specs.declared.fault.EntryFault.{EntryFault}
 use Rattle.entries.specs.declared.fault.EntryRefusal.{EntryRefusal}
 use Rattle.entries.specs.declared.token.InitialToken.{InitialToken}
 use Rattle.docket_words.specs.Heads.{head_text, initial_text}
@@ -22,11 +21,6 @@ head_line h = head_text h ++ (10 ∷ [])
 
 abbrev pub initial_line : ℕ → InitialToken → List ℕ
 initial_line number token = initial_text number token ++ (10 ∷ [])
-
--- a record is written, or its fault; what comes after it is read only where there is no fault
-abbrev pub Stepped : {X : Type 0} → Result X EntryFault → (X → List ℕ) → List ℕ → List ℕ → Option X → Type 0
-Stepped read words before after (Some x) = (read ≡ Ok x) × (after ≡ before ++ words x)
-Stepped read words before after None = (fault : EntryFault) × (read ≡ Err fault) × (after ≡ before ++ refusal_line fault)
 
 -- ---- n tokens, the first of them `number` and record `at`
 abbrev pub token_text_by : ℕ → Result InitialToken EntryFault → List ℕ → List ℕ
@@ -66,7 +60,3 @@ pub record TokensRead (places n at : ℕ) (rest before after : List ℕ) (next :
 pub record TokensRefused (n at : ℕ) (rest before after : List ℕ) : Type 0 where
   pub refused : tokens_read n rest ≡ false
   pub text : after ≡ before ++ tokens_text n 1 at rest
-
-abbrev pub TokensWritten : ℕ → ℕ → ℕ → List ℕ → List ℕ → List ℕ → ℕ → List ℕ → Option Bool → Type 0
-TokensWritten places n at rest before after next left (Some outside) = TokensRead places n at rest before after next left outside
-TokensWritten places n at rest before after next left None = TokensRefused n at rest before after

@@ -9,8 +9,12 @@ abbrev pub below : (ℕ → List ℕ) → ℕ → List ℕ
 below text zero = []
 below text (suc n) = below text n ++ text n
 
+-- a name and a number, or the word for number 0
+abbrev pub numbered_text : List ℕ → List ℕ → ℕ → List ℕ
+numbered_text zero' name n = cond (n == 0) zero' (name ++ (codes " " ++ decimal n))
+
 abbrev pub point_text : ℕ → List ℕ
-point_text n = cond (n == 0) (codes "clock") (codes "token " ++ decimal n)
+point_text n = numbered_text (codes "clock") (codes "token") n
 
 -- the point of a column, parted from the one before it
 abbrev pub column_text : ℕ → List ℕ

@@ -1,51 +1,37 @@
 // The whole docket part in words, after the net.
-ghost use Rattle.std.specs.Prelude.{◌≡◌, ◌+◌, ◌*◌, ◌≤◌, length, drop, IfOk, string_bytes, OnOk};
+ghost use Rattle.std.specs.Prelude.{◌≡◌, ◌+◌, ◌*◌, ◌≤◌, length, drop, IfOk, string_bytes};
+ghost use Rattle.docket_words.specs.Ends.{Ends};
 ghost use Rattle.docket_words.specs.Told.{MarkingTold, DocketTold, PartTold, FileTold};
 
 use crate::bound::BoundWords;
-use crate::initial::{write_header, write_tokens};
-use crate::listed::{marking_refusal, write_target};
+use crate::listed::marking_refusal;
+use crate::teller::{Ended, Teller};
 use bounds::{Bound, MarkedBound, PlainBound};
 use entries::docket::DocketHeader;
 use explaining::explain;
-use records::header::NetHeader;
+use records::header::{NetHeader, NetKind};
 use records::net::check_net;
 use records::reader::Reader;
 use records::transition::TransitionRecord;
 use std::alloc::{AllocError, Global};
 
-// The initial tokens, and the zones.
-fn write_marking<B: BoundWords>(
-    text: &mut String,
-    reader: &mut Reader<'_>,
-    header: DocketHeader,
-    places: u8,
-    cells: &mut [B],
-) -> Result<(), AllocError>
-    requires { length cells.old ≡ 169 }
-    ensures { OnOk result (MarkingTold B.Bound.kind B.BoundWords.words places header reader.old.next reader.old.rest.now (string_bytes text.old) (string_bytes text.new)) }
-{
-    let Some(outside) = write_tokens(text, reader, header.initial, places)? else {
-        return Ok(());
-    };
-    let known = marking_refusal(header.initial, outside);
-    write_target(text, reader, known, header.zones, places, cells)
-}
+impl<'a, 'c, B: BoundWords> Teller<'a, 'c, B> {
+    // The initial tokens, and the zones.
+    fn marking(&mut self, header: DocketHeader, places: u8) -> Result<(), Ended>
+        ensures { Ends result (MarkingTold B.Bound.kind B.BoundWords.words places header self.old.reader.next self.old.reader.rest.now (string_bytes self.old.text)) (string_bytes self.new.text) }
+    {
+        let outside = self.tokens(header.initial, places)?;
+        let known = marking_refusal(header.initial, outside);
+        self.target(known, header.zones, places)
+    }
 
-// The records from the docket header to the last listed zone.
-fn write_docket<B: BoundWords>(
-    text: &mut String,
-    reader: &mut Reader<'_>,
-    places: u8,
-    cells: &mut [B],
-) -> Result<(), AllocError>
-    requires { length cells.old ≡ 169 }
-    ensures { OnOk result (DocketTold B.Bound.kind B.BoundWords.words places reader.old.next reader.old.rest.now (string_bytes text.old) (string_bytes text.new)) }
-{
-    let Some(header) = write_header(text, reader)? else {
-        return Ok(());
-    };
-    write_marking(text, reader, header, places, cells)
+    // The records from the docket header to the last listed zone.
+    fn docket(&mut self, places: u8) -> Result<(), Ended>
+        ensures { Ends result (DocketTold B.Bound.kind B.BoundWords.words places self.old.reader.next self.old.reader.rest.now (string_bytes self.old.text)) (string_bytes self.new.text) }
+    {
+        let header = self.header()?;
+        self.marking(header, places)
+    }
 }
 
 // Passes the net records.
@@ -54,28 +40,64 @@ fn pass_net(reader: &mut Reader<'_>, transitions: u8)
     ensures rest { reader.new.rest.now ≡ drop (4 + 41 * transitions) reader.old.rest.now }
     ensures next { reader.new.next ≡ reader.old.next + (1 + transitions) }
 {
+    // each is there, as asked above: a fault handed on would be one that cannot come
     let _ = reader.part(NetHeader::SIZE);
     for _ in 0..transitions {
         let _ = reader.part(TransitionRecord::SIZE);
     }
 }
 
-// The docket part under this net, if any bytes follow the net records.
-fn write_part(text: &mut String, bytes: &[u8], net: NetHeader) -> Result<(), AllocError>
-    ensures { OnOk result (PartTold net bytes.now (string_bytes text.old) (string_bytes text.new)) }
+// The text with what a reader of the docket part tells, and the fault where one ends it.
+fn with_records<B: BoundWords>(
+    text: String,
+    reader: Reader<'_>,
+    places: u8,
+    cells: &mut [B],
+) -> Result<String, AllocError>
+    requires { length cells.old ≡ 169 }
+    ensures { IfOk result (λ s. DocketTold B.Bound.kind B.BoundWords.words places reader.entry.next reader.entry.rest.now (string_bytes text) (string_bytes s)) }
+{
+    let mut teller = Teller {
+        text,
+        reader,
+        cells,
+    };
+    let told = teller.docket(places);
+    let Teller { mut text, .. } = teller;
+    match told {
+        Ok(()) => Ok(text),
+        Err(Ended::NoMemory(e)) => Err(e),
+        Err(Ended::Refused(fault)) => {
+            writeln!(text, "refused {fault}")?;
+            Ok(text)
+        }
+    }
+}
+
+// The text with the docket part under this net, if any bytes follow the net records.
+fn with_docket(text: String, bytes: &[u8], net: NetHeader) -> Result<String, AllocError>
+    ensures { IfOk result (λ s. PartTold net bytes.now (string_bytes text) (string_bytes s)) }
 {
     let size = NetHeader::SIZE + TransitionRecord::SIZE * usize::from(net.transitions);
     if bytes.len() <= size {
-        return Ok(());
+        return Ok(text);
     }
     let mut reader = Reader::new(bytes);
     pass_net(&mut reader, net.transitions);
-    if net.marked {
-        let mut cells = [MarkedBound::no_limit(); 169];
-        write_docket(text, &mut reader, net.places, &mut cells)
-    } else {
-        let mut cells = [PlainBound::no_limit(); 169];
-        write_docket(text, &mut reader, net.places, &mut cells)
+    // the cells are made where the kind is known: of an array of any kind's bounds it is not proved that its bytes are fewer than 2^63
+    match net.kind {
+        NetKind::Plain => with_records(
+            text,
+            reader,
+            net.places,
+            &mut [PlainBound::no_limit(); 169],
+        ),
+        NetKind::Marked => with_records(
+            text,
+            reader,
+            net.places,
+            &mut [MarkedBound::no_limit(); 169],
+        ),
     }
 }
 
@@ -83,10 +105,9 @@ fn write_part(text: &mut String, bytes: &[u8], net: NetHeader) -> Result<(), All
 pub fn explain_file(heap: Global, bytes: &[u8]) -> Result<String, AllocError>
     ensures { IfOk result (λ s. FileTold bytes.now (string_bytes s)) }
 {
-    let mut text = explain(heap, bytes)?;
-    let Ok(net) = check_net(bytes) else {
-        return Ok(text);
-    };
-    write_part(&mut text, bytes, net)?;
-    Ok(text)
+    let text = explain(heap, bytes)?;
+    match check_net(bytes) {
+        Ok(net) => with_docket(text, bytes, net),
+        Err(_) => Ok(text),
+    }
 }

@@ -4,10 +4,11 @@
 pub mod bound;
 pub mod docket;
 pub mod head;
-pub mod initial;
-pub mod listed;
-pub mod point;
+mod initial;
+mod listed;
+pub mod numbered;
 pub mod table;
+mod teller;
 pub mod zone;
 
 pub use docket::explain_file;

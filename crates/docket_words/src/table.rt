@@ -1,25 +1,32 @@
 // The bounds of a zone as a table: a row limits the age of its point less the age of each point.
 ghost use Rattle.cells.specs.Cells.{in_draft};
 ghost use Rattle.docket_words.specs.Tables.{column_text, cell_text, row_text, table_text};
-ghost use Rattle.std.specs.Prelude.{◌≡◌, ◌++◌, string_bytes, OnOk};
+ghost use Rattle.std.specs.Prelude.{◌≡◌, ◌++◌, Some, string_bytes, OnOk};
 
 use crate::bound::BoundWords;
-use crate::point::Point;
+use crate::numbered::Numbered;
 use pages::draft::bound_at;
 use std::alloc::AllocError;
+use std::fmt;
 
 // The point of a column, parted from the one before it.
-fn write_column(text: &mut String, column: u8) -> Result<(), AllocError>
-    ensures { OnOk result (string_bytes text.new ≡ string_bytes text.old ++ column_text column) }
-{
-    let point = Point(column);
-    if column == 0 {
-        write!(text, " {point} ")
-    } else {
-        write!(text, " | {point} ")
+#[derive(Clone, Copy)]
+struct Column(u8);
+
+impl fmt::Display for Column {
+    ghost output = { λ c. Some (column_text c.0) };
+
+    fn fmt<W: fmt::Write>(&self, f: &mut fmt::Formatter<W>) -> fmt::Result {
+        let point = Numbered::point(self.0);
+        if self.0 == 0 {
+            write!(f, " {point} ")
+        } else {
+            write!(f, " | {point} ")
+        }
     }
 }
 
+// Cells, rows and the table are no `Display`: a kind writes its bounds to a `String` alone.
 fn write_cell<B: BoundWords>(
     text: &mut String,
     cells: &[B],
@@ -28,7 +35,8 @@ fn write_cell<B: BoundWords>(
 ) -> Result<(), AllocError>
     ensures { OnOk result (string_bytes text.new ≡ string_bytes text.old ++ cell_text B.BoundWords.words (in_draft B.Bound.kind cells.now) row column) }
 {
-    write_column(text, column)?;
+    let point = Column(column);
+    write!(text, "{point}")?;
     bound_at(cells, row, column).write_words(text)
 }
 
@@ -40,7 +48,7 @@ fn write_row<B: BoundWords>(
 ) -> Result<(), AllocError>
     ensures { OnOk result (string_bytes text.new ≡ string_bytes text.old ++ row_text B.BoundWords.words (in_draft B.Bound.kind cells.now) points row) }
 {
-    let point = Point(row);
+    let point = Numbered::point(row);
     write!(text, "  {point} less:")?;
     for column in 0..points {
         write_cell(text, cells, row, column)?;

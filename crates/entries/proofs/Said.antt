@@ -1,21 +1,8 @@
 -- What the tests and the reads of a zone record come to. Assumes nothing.
-use Rattle.std.proofs.Common.{◌≡◌, ℕ, ◌+◌, ◌-◌, ◌*◌, ◌<◌, ◌≤◌, not, ◌&&◌, ◌||◌, eqb, leb, ◌⊎◌, List, sym, ap, ◌∙◌, ⊎_elim, arith}
-use Rattle.std.proofs.lemmas.Bool.{le-leb, lt-leb, and_left, and_right, and_from, cond-true, cond-false}
+use Rattle.std.proofs.Common.{◌≡◌, ℕ, ◌+◌, ◌*◌, not, ◌||◌, eqb, List, sym, ap, ◌∙◌, arith}
 use Rattle.records.proofs.Fields.{field_join}
 use Rattle.records.specs.Bits.{field}
-use Rattle.entries.specs.ZoneRecords.{place_at, spare_set}
-
--- ---- places
-module _ (xs : List ℕ) (t : ℕ) where
-  pub no_place : (t < 1) ⊎ ((1 ≤ t) × (8 < t)) → 0 ≡ place_at xs t
-  unfolding place_at
-  no_place outside =
-      sym (cond-false (leb 1 t && leb t 8) (field xs (8 + 6 * (t - 1)) 6) 0 (⊎_elim (λ h. and_left (leb 1 t) (leb t 8) (lt-leb 1 t h)) (λ h. and_right (leb 1 t) (leb t 8) (lt-leb t 8 h.1)) outside))
-
-  pub place_is : 1 ≤ t → t ≤ 8 → field xs (8 + 6 * (t - 1)) 6 ≡ place_at xs t
-  unfolding place_at
-  place_is low high =
-      sym (cond-true (leb 1 t && leb t 8) (field xs (8 + 6 * (t - 1)) 6) 0 (and_from (leb 1 t) (leb t 8) (le-leb 1 t low) (le-leb t 8 high)))
+use Rattle.entries.specs.ZoneRecords.{spare_set}
 
 -- ---- spare bits, of which the second field has two parts
 spare_parts : (a b c n : ℕ) → n ≡ b * 1048576 + c → not (eqb (a + b + c) 0) ≡ (not (eqb a 0) || not (eqb n 0))

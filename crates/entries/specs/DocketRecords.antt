@@ -2,11 +2,11 @@
 --     header    initial tokens 4 bits, listed zones 6, spare 22; the most significant bit first
 --     token     place 6 bits, age 15, spare 3
 -- Assumes nothing.
-use Rattle.std.specs.Prelude.{ℕ, Bool, cond, not, List, length, Ok, Err, Result, ◌==◌}
+use Rattle.std.specs.Prelude.{ℕ, Bool, not, List, Result, ◌==◌}
 use Rattle.records.specs.Bits.{field}
+use Rattle.entries.specs.Records.{read_as}
 use Rattle.entries.specs.declared.docket.DocketHeader.{DocketHeader}
 use Rattle.entries.specs.declared.fault.EntryRefusal.{EntryRefusal}
-use Rattle.entries.specs.declared.fault.EntryRefusal.TheVariants.{WrongLength, NotZero}
 use Rattle.entries.specs.declared.token.InitialToken.{InitialToken}
 
 unfoldable pub header_of : List ℕ → DocketHeader
@@ -21,12 +21,8 @@ token_of bytes = record { place = field bytes 0 6; age = field bytes 6 15 }
 unfoldable pub token_spare : List ℕ → Bool
 token_spare bytes = not (field bytes 21 3 == 0)
 
--- a record of so many bytes; the lowest number counts
-abbrev pub read_as : {X : Type 0} → ℕ → List ℕ → Bool → X → Result X EntryRefusal
-read_as size bytes spare x = cond (not (length bytes == size)) (Err WrongLength) (cond spare (Err NotZero) (Ok x))
-
 abbrev pub docket_header : List ℕ → Result DocketHeader EntryRefusal
-docket_header bytes = read_as 4 bytes (header_spare bytes) (header_of bytes)
+docket_header bytes = read_as 4 header_spare header_of bytes
 
 abbrev pub initial_token : List ℕ → Result InitialToken EntryRefusal
-initial_token bytes = read_as 3 bytes (token_spare bytes) (token_of bytes)
+initial_token bytes = read_as 3 token_spare token_of bytes

@@ -1,3 +1,4 @@
 pub mod DocketRecords
+pub mod Records
 pub mod Refusals
 pub mod ZoneRecords

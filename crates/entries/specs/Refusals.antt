@@ -1,6 +1,7 @@
 -- The number and the text of each refusal of a record after the net. Assumes nothing.
-use Rattle.std.specs.Prelude.{ℕ, List, ◌++◌, codes, decimal}
-use Rattle.entries.specs.declared.fault.EntryFault.{EntryFault}
+use Rattle.std.specs.Prelude.{ℕ, List, codes, Some, None, Option, Ok, Err, Result}
+use Rattle.records.specs.Refusals.{located}
+use Rattle.records.specs.declared.fault.Fault.{Fault}
 use Rattle.entries.specs.declared.fault.EntryRefusal.{EntryRefusal}
 use Rattle.entries.specs.declared.fault.EntryRefusal.TheVariants.{WrongLength, NotZero, TooMany, NoSuchPlace, MarkUnderPlain, Inconsistent}
 
@@ -20,7 +21,14 @@ entry_text NoSuchPlace = codes "a place is not in the net"
 entry_text MarkUnderPlain = codes "a strict mark under plain kind"
 entry_text Inconsistent = codes "no marking satisfies the zone"
 
+-- what a test answers: the first refusal, if any
+abbrev pub tested : Option EntryRefusal → Result Unit EntryRefusal
+tested None = Ok tt
+tested (Some refusal) = Err refusal
+
+abbrev pub EntryFault : Type 0
+EntryFault = Fault EntryRefusal
+
 -- a refusal by number and text, with its record
 abbrev pub entry_fault_text : EntryFault → List ℕ
-entry_fault_text fault =
-    decimal (entry_number_of fault.refusal) ++ (codes " in record " ++ (decimal fault.at ++ (codes ": " ++ entry_text fault.refusal)))
+entry_fault_text = located entry_number_of entry_text

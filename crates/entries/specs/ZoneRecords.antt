@@ -3,10 +3,11 @@
 --     bounds     by rows, j = 0 to 8, in each row the columns i = 0 to 8 without i = j
 --     bound      a mark, 1 bit, and a number, 19 bits in two's complement; the least number says no limit
 -- A byte past the end reads as 0. Assumes nothing.
-use Rattle.std.specs.Prelude.{ℕ, zero, suc, ◌+◌, ◌-◌, ◌*◌, min, Bool, false, cond, not, ◌&&◌, ◌||◌, List, map, length, ℤ, pos, ◌-ℤ◌, neg_ℤ, Some, None, Option, ◌==◌, int_le, nat_le, nat_lt}
+use Rattle.std.specs.Prelude.{ℕ, ◌+◌, ◌-◌, ◌*◌, min, Bool, cond, not, ◌&&◌, ◌||◌, List, map, length, ℤ, pos, ◌-ℤ◌, neg_ℤ, Some, None, Option, is_some, is_none, ◌==◌, nat_le, nat_lt}
 use Rattle.bounds.specs.Kinds.{Kind}
 use Rattle.records.specs.Bits.{field, flag}
-use Rattle.std.specs.List.{range_with_len}
+use Rattle.std.specs.List.{list_any, range_with_len}
+use Rattle.std.specs.Ordering.{int_eq}
 use Rattle.zones.specs.Zones.{Zone}
 use Rattle.entries.specs.declared.entry.Entry.{Entry}
 use Rattle.entries.specs.declared.fault.EntryRefusal.{EntryRefusal}
@@ -35,26 +36,28 @@ mark_at bytes j i = flag bytes (entry_start j i)
 abbrev pub signed : ℕ → ℤ
 signed n = cond (nat_lt n 262144) (pos n) (pos n -ℤ pos 524288)
 
-unfoldable pub number_at : List ℕ → ℕ → ℕ → ℤ
-number_at bytes j i = signed (field bytes (entry_start j i + 1) 19)
+-- the number -262144 says no limit
+abbrev pub no_limit_code : ℤ
+no_limit_code = neg_ℤ (pos 262144)
+
+-- none is no limit
+abbrev pub limit_of : ℤ → Option ℤ
+limit_of n = cond (int_eq n no_limit_code) None (Some n)
+
+unfoldable pub number_at : List ℕ → ℕ → ℕ → Option ℤ
+number_at bytes j i = limit_of (signed (field bytes (entry_start j i + 1) 19))
 
 -- a mark and a number
 abbrev pub entry_at : List ℕ → ℕ → ℕ → Entry
 entry_at bytes j i = record { mark = mark_at bytes j i; number = number_at bytes j i }
 
--- the number -262144 says no limit
-abbrev pub no_limit_code : ℤ
-no_limit_code = neg_ℤ (pos 262144)
-
-abbrev pub same_number : ℤ → ℤ → Bool
-same_number a b = int_le a b && int_le b a
-
-abbrev pub says_no_limit : Entry → Bool
-says_no_limit e = same_number e.number no_limit_code
-
 -- no limit, or the bound of a number; a kind without marks has none of them
+abbrev pub limit : {B : Type 0} → Kind B → Bool → Option ℤ → B
+limit kind mark None = kind.no_limit
+limit kind mark (Some n) = kind.number n (mark && kind.marks)
+
 abbrev pub entry_bound : {B : Type 0} → Kind B → Entry → B
-entry_bound kind e = cond (says_no_limit e) kind.no_limit (kind.number e.number (e.mark && kind.marks))
+entry_bound kind e = limit kind e.mark e.number
 
 -- zero from a point to itself, and no limit past the last point
 abbrev pub bound_at : {B : Type 0} → Kind B → List ℕ → ℕ → ℕ → B
@@ -65,26 +68,21 @@ abbrev pub zone_of : {B : Type 0} → Kind B → List ℕ → Zone B
 zone_of kind bytes = record { places = map (place_at bytes) (range_with_len 1 (min (tokens_of bytes) 8)); bound = bound_at kind bytes }
 
 -- ---- what is wrong with a record
--- p holds of some number below n
-unfoldable pub some_below : ℕ → (ℕ → Bool) → Bool
-some_below zero p = false
-some_below (suc n) p = some_below n p || p n
-
--- of some of the tokens 1 to 8
-abbrev pub some_token : (ℕ → Bool) → Bool
-some_token p = some_below 8 (λ t. p (t + 1))
+-- p holds of some of the tokens 1 to 8
+unfoldable pub some_token : (ℕ → Bool) → Bool
+some_token p = list_any p (range_with_len 1 8)
 
 -- of two points that are not the same
 abbrev pub apart : (ℕ → ℕ → Bool) → ℕ → ℕ → Bool
 apart p j i = not (j == i) && p j i
 
 -- of some bound of row j
-abbrev pub some_in_row : (ℕ → ℕ → Bool) → ℕ → Bool
-some_in_row p j = some_below 9 (apart p j)
+unfoldable pub some_in_row : (ℕ → ℕ → Bool) → ℕ → Bool
+some_in_row p j = list_any (apart p j) (range_with_len 0 9)
 
 -- of some bound
-abbrev pub some_bound : (ℕ → ℕ → Bool) → Bool
-some_bound p = some_below 9 (some_in_row p)
+unfoldable pub some_bound : (ℕ → ℕ → Bool) → Bool
+some_bound p = list_any (some_in_row p) (range_with_len 0 9)
 
 -- the bound is of two points that the record has
 abbrev pub is_present : List ℕ → ℕ → ℕ → Bool
@@ -102,7 +100,7 @@ unused_place bytes t = nat_lt (tokens_of bytes) t && not (place_at bytes t == 0)
 
 -- an absent bound is not the plain code of no limit, or a present one is that code with a mark
 abbrev pub unclean_entry : Bool → Entry → Bool
-unclean_entry present e = cond present (e.mark && says_no_limit e) (e.mark || not (says_no_limit e))
+unclean_entry present e = cond present (e.mark && is_none e.number) (e.mark || is_some e.number)
 
 abbrev pub unclean_bound : List ℕ → ℕ → ℕ → Bool
 unclean_bound bytes j i = unclean_entry (is_present bytes j i) (entry_at bytes j i)

@@ -1,22 +1,16 @@
 // Fields of bits in bytes, the most significant bit first. A byte past the end reads as 0.
-ghost use Rattle.std.specs.Prelude.{◌≡◌, ◌+◌, ◌*◌, ◌%◌, ◌^◌, ◌<◌, ◌≤◌, slice_index};
+ghost use Rattle.std.specs.Prelude.{◌≡◌, ◌+◌, ◌*◌, ◌%◌, ◌^◌, ◌<◌, ◌≤◌};
 ghost use Rattle.records.specs.Bits.{field};
 
-fn byte(bytes: &[u8], at: usize) -> u8
-    ensures { result ≡ slice_index bytes.now at }
-{
-    if at < bytes.len() { bytes[at] } else { 0 }
-}
-
 // Three bytes as one number.
+#[tactic(auto, using(crate::proofs::Windows::three_bytes))]
 fn window(bytes: &[u8], at: usize) -> u32
     requires { at < 2 ^ 61 }
     ensures { result ≡ field bytes.now (8 * at) 24 }
 {
-    let high = u32::from(byte(bytes, at));
-    let middle = u32::from(byte(bytes, at + 1));
-    let low = u32::from(byte(bytes, at + 2));
-    high * 65_536 + middle * 256 + low
+    // as `byte` of pages, a crate above
+    let byte = |i: usize| bytes.get(i).copied().unwrap_or(0);
+    u32::from_be_bytes([0, byte(at), byte(at + 1), byte(at + 2)])
 }
 
 // The number that `width` bits write, from bit `from` on.

@@ -1,23 +1,24 @@
 // One bound of a zone record: a mark and a number.
 ghost use Rattle.std.specs.Prelude.{◌≡◌, ◌<◌};
-ghost use Rattle.entries.specs.ZoneRecords.{entry_number, entry_at, says_no_limit, signed};
+ghost use Rattle.entries.specs.ZoneRecords.{entry_number, entry_at, limit_of, signed};
 
 use crate::bits::bits;
+use crate::zone::ZoneRecord;
 
 #[derive(Clone, Copy, PartialEq, Eq, Debug)]
 pub struct Entry {
     pub mark: bool,
-    pub number: i32,
+    // none is no limit
+    pub number: Option<i32>,
 }
 
-impl Entry {
-    pub const NO_LIMIT: i32 = -262_144;
+// The least number of 19 bits says no limit.
+const NO_LIMIT: i32 = -262_144;
 
-    pub fn says_no_limit(self) -> bool
-        ensures { result ≡ says_no_limit self }
-    {
-        self.number == Entry::NO_LIMIT
-    }
+fn limit_of(number: i32) -> Option<i32>
+    ensures { result ≡ limit_of number }
+{
+    (number != NO_LIMIT).then_some(number)
 }
 
 // How many bounds stand before that of `j` and `i`.
@@ -41,13 +42,15 @@ fn signed(n: u32) -> i32
     }
 }
 
-// The bound of `j` and `i` as it stands.
-pub(crate) fn read_entry(bytes: &[u8], j: u8, i: u8) -> Entry
-    ensures { result ≡ entry_at bytes.now j i }
-{
-    let both = bits(bytes, 96 + 20 * entry_number(j, i), 20);
-    Entry {
-        mark: both / 524_288 == 1,
-        number: signed(both % 524_288),
+impl<'a> ZoneRecord<'a> {
+    // The bound of `j` and `i` as it stands.
+    pub(crate) fn entry(&self, j: u8, i: u8) -> Entry
+        ensures { result ≡ entry_at self.now.bytes.now j i }
+    {
+        let both = bits(self.bytes, 96 + 20 * entry_number(j, i), 20);
+        Entry {
+            mark: both / 524_288 == 1,
+            number: limit_of(signed(both % 524_288)),
+        }
     }
 }

@@ -1,9 +1,9 @@
 // Faults of the records after the net: what is wrong, and in which record.
-ghost use Rattle.entries.specs.Refusals.{entry_number_of, entry_text, entry_fault_text};
+ghost use Rattle.entries.specs.Refusals.{entry_number_of, entry_text};
 ghost use Rattle.entries.specs.declared.fault.EntryRefusal.TheVariants.{WrongLength};
-ghost use Rattle.std.specs.Prelude.{◌≡◌, Some};
+ghost use Rattle.std.specs.Prelude.{Some, refl};
 
-use records::fault::Missing;
+use records::fault::{Fault, Refusal};
 use std::fmt;
 
 // By number; the lowest number that holds counts.
@@ -19,11 +19,21 @@ pub enum EntryRefusal {
     Inconsistent = 25,
 }
 
-impl EntryRefusal {
-    pub fn number(self) -> u8
-        ensures { result ≡ entry_number_of self }
-    {
+impl Refusal for EntryRefusal {
+    ghost number_of = { entry_number_of };
+
+    ghost text_of = { entry_text };
+
+    ghost missing = { WrongLength };
+
+    ghost displays = { λ r. refl };
+
+    fn number(self) -> u8 {
         self as u8
+    }
+
+    fn missing() -> EntryRefusal {
+        EntryRefusal::WrongLength
     }
 }
 
@@ -31,43 +41,16 @@ impl fmt::Display for EntryRefusal {
     ghost output = { λ r. Some (entry_text r) };
 
     fn fmt<W: fmt::Write>(&self, f: &mut fmt::Formatter<W>) -> fmt::Result {
-        match self {
-            EntryRefusal::WrongLength => write!(f, "a record has the wrong length"),
-            EntryRefusal::NotZero => write!(
-                f,
-                "a spare or unused field is not zero, or no limit has a mark"
-            ),
-            EntryRefusal::TooMany => write!(f, "more than 8 tokens"),
-            EntryRefusal::NoSuchPlace => write!(f, "a place is not in the net"),
-            EntryRefusal::MarkUnderPlain => write!(f, "a strict mark under plain kind"),
-            EntryRefusal::Inconsistent => write!(f, "no marking satisfies the zone"),
-        }
+        f.write_str(match self {
+            EntryRefusal::WrongLength => "a record has the wrong length",
+            EntryRefusal::NotZero => "a spare or unused field is not zero, or no limit has a mark",
+            EntryRefusal::TooMany => "more than 8 tokens",
+            EntryRefusal::NoSuchPlace => "a place is not in the net",
+            EntryRefusal::MarkUnderPlain => "a strict mark under plain kind",
+            EntryRefusal::Inconsistent => "no marking satisfies the zone",
+        })
     }
 }
 
 // Records are counted from 0 through the whole file.
-#[derive(Clone, Copy, PartialEq, Eq, Debug)]
-pub struct EntryFault {
-    pub refusal: EntryRefusal,
-    pub at: usize,
-}
-
-impl fmt::Display for EntryFault {
-    ghost output = { λ fault. Some (entry_fault_text fault) };
-
-    fn fmt<W: fmt::Write>(&self, f: &mut fmt::Formatter<W>) -> fmt::Result {
-        let number = self.refusal.number();
-        let at = self.at;
-        let refusal = self.refusal;
-        write!(f, "{number} in record {at}: {refusal}")
-    }
-}
-
-impl From<Missing> for EntryFault {
-    ghost from_gives = { λ m r. r ≡ record { refusal = WrongLength; at = m.at } };
-
-    fn from(m: Missing) -> EntryFault {
-        let refusal = EntryRefusal::WrongLength;
-        EntryFault { refusal, at: m.at }
-    }
-}
+pub type EntryFault = Fault<EntryRefusal>;

@@ -5,6 +5,7 @@ mod bits;
 pub mod docket;
 pub mod entry;
 pub mod fault;
+pub mod record;
 pub mod refusal;
 pub mod token;
 pub mod zone;

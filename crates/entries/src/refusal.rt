@@ -1,157 +1,50 @@
 // The tests of a zone record, in ascending number.
-ghost use Rattle.entries.specs.ZoneRecords.{apart, is_present, marked_bound, no_such_place, not_zero, place_missing, some_bound, some_in_row, some_token, spare_set, unclean_bound, unclean_entry, unused_place, zone_fault};
-ghost use Rattle.std.specs.Prelude.{◌≡◌};
+ghost use Rattle.entries.specs.Refusals.{tested};
+ghost use Rattle.entries.specs.ZoneRecords.{is_present, marked_bound, not_zero, place_missing, some_bound, some_in_row, some_token, spare_set, unclean_bound, unclean_entry, unused_place, zone_fault};
+ghost use Rattle.std.specs.Prelude.{◌≡◌, ℕ, Bool};
 
 use crate::bits::bits;
-use crate::entry::{Entry, read_entry};
+use crate::entry::Entry;
 use crate::fault::EntryRefusal;
-use crate::zone::{zone_place, zone_tokens};
+use crate::zone::{MOST_TOKENS, ZoneRecord};
 use bounds::Bound;
 
 pub const ZONE_SIZE: usize = 192;
 
-// The spare fields are zero where their sum is.
-fn spare_set(bytes: &[u8]) -> bool
-    ensures { result ≡ spare_set bytes.now }
-{
-    bits(bytes, 0, 4) + bits(bytes, 56, 20) + bits(bytes, 76, 20) != 0
-}
-
-// Whether the token is absent, and its place not zero.
-fn unused_place(bytes: &[u8], token: u8) -> bool
-    ensures { result ≡ unused_place bytes.now token }
-{
-    zone_tokens(bytes) < token && zone_place(bytes, token) != 0
-}
-
-fn some_unused_place(bytes: &[u8]) -> bool
-    ensures { result ≡ some_token (unused_place bytes.now) }
-{
-    for t in 0..8 {
-        if unused_place(bytes, t + 1) {
-            return true;
-        }
-    }
-    false
-}
-
-// Whether the token is present, and its place not in the net.
-fn place_missing(bytes: &[u8], places: u8, token: u8) -> bool
-    ensures { result ≡ place_missing places bytes.now token }
-{
-    token <= zone_tokens(bytes) && places <= zone_place(bytes, token)
-}
-
-fn no_such_place(bytes: &[u8], places: u8) -> bool
-    ensures { result ≡ no_such_place places bytes.now }
-{
-    for t in 0..8 {
-        if place_missing(bytes, places, t + 1) {
-            return true;
-        }
-    }
-    false
-}
-
-fn is_present(bytes: &[u8], j: u8, i: u8) -> bool
-    ensures { result ≡ is_present bytes.now j i }
-{
-    let tokens = zone_tokens(bytes);
-    j <= tokens && i <= tokens
-}
+// The clock and the tokens.
+const POINTS: u8 = MOST_TOKENS + 1;
 
 fn unclean_entry(present: bool, entry: Entry) -> bool
     ensures { result ≡ unclean_entry present entry }
 {
     if present {
-        entry.mark && entry.says_no_limit()
+        entry.mark && entry.number.is_none()
     } else {
-        entry.mark || !entry.says_no_limit()
+        entry.mark || entry.number.is_some()
     }
 }
 
-fn unclean_bound(bytes: &[u8], j: u8, i: u8) -> bool
-    ensures { result ≡ apart (unclean_bound bytes.now) j i }
+// Whether the test holds of some token.
+fn some_token<F: Fn(u8) -> bool>(test: F) -> bool
+    requires { F.IsAlwaysCallable test }
+    ensures { (p : ℕ → Bool) → ((t : ℕ) (b : Bool) → F.post test t b → b ≡ p t) → result ≡ some_token p }
 {
-    j != i && unclean_entry(is_present(bytes, j, i), read_entry(bytes, j, i))
+    (1..POINTS).any(|token| test(token))
 }
 
-fn some_unclean_in_row(bytes: &[u8], j: u8) -> bool
-    ensures { result ≡ some_in_row (unclean_bound bytes.now) j }
+fn some_in_row<F: Fn(u8, u8) -> bool>(test: &F, j: u8) -> bool
+    requires { F.IsAlwaysCallable test.now }
+    ensures { (p : ℕ → ℕ → Bool) → ((j i : ℕ) (b : Bool) → F.post test.now j i b → b ≡ p j i) → result ≡ some_in_row p j }
 {
-    for i in 0..9 {
-        if unclean_bound(bytes, j, i) {
-            return true;
-        }
-    }
-    false
+    (0..POINTS).any(|i| j != i && test(j, i))
 }
 
-fn some_unclean_bound(bytes: &[u8]) -> bool
-    ensures { result ≡ some_bound (unclean_bound bytes.now) }
+// Whether the test holds of the bound of some two points.
+fn some_bound<F: Fn(u8, u8) -> bool>(test: F) -> bool
+    requires { F.IsAlwaysCallable test }
+    ensures { (p : ℕ → ℕ → Bool) → ((j i : ℕ) (b : Bool) → F.post test j i b → b ≡ p j i) → result ≡ some_bound p }
 {
-    for j in 0..9 {
-        if some_unclean_in_row(bytes, j) {
-            return true;
-        }
-    }
-    false
-}
-
-fn not_zero(bytes: &[u8]) -> bool
-    ensures { result ≡ not_zero bytes.now }
-{
-    spare_set(bytes) || some_unused_place(bytes) || some_unclean_bound(bytes)
-}
-
-// Whether the bound of two points is present and has a mark.
-fn marked_bound(bytes: &[u8], j: u8, i: u8) -> bool
-    ensures { result ≡ apart (marked_bound bytes.now) j i }
-{
-    j != i && is_present(bytes, j, i) && read_entry(bytes, j, i).mark
-}
-
-fn some_marked_in_row(bytes: &[u8], j: u8) -> bool
-    ensures { result ≡ some_in_row (marked_bound bytes.now) j }
-{
-    for i in 0..9 {
-        if marked_bound(bytes, j, i) {
-            return true;
-        }
-    }
-    false
-}
-
-fn some_marked_bound(bytes: &[u8]) -> bool
-    ensures { result ≡ some_bound (marked_bound bytes.now) }
-{
-    for j in 0..9 {
-        if some_marked_in_row(bytes, j) {
-            return true;
-        }
-    }
-    false
-}
-
-fn refusal(bytes: &[u8], marks: bool, places: u8) -> Option<EntryRefusal>
-    ensures { result ≡ zone_fault marks places bytes.now }
-{
-    if bytes.len() != ZONE_SIZE {
-        return Some(EntryRefusal::WrongLength);
-    }
-    if not_zero(bytes) {
-        return Some(EntryRefusal::NotZero);
-    }
-    if 8 < zone_tokens(bytes) {
-        return Some(EntryRefusal::TooMany);
-    }
-    if no_such_place(bytes, places) {
-        return Some(EntryRefusal::NoSuchPlace);
-    }
-    if !marks && some_marked_bound(bytes) {
-        return Some(EntryRefusal::MarkUnderPlain);
-    }
-    None
+    (0..POINTS).any(|j| some_in_row(&test, j))
 }
 
 fn takes_marks<B: Bound>() -> bool
@@ -160,9 +53,76 @@ fn takes_marks<B: Bound>() -> bool
     B::make(0, true).is_ok()
 }
 
-// What is wrong with a zone record under a net of so many places, lowest number first.
-pub fn zone_refusal<B: Bound>(bytes: &[u8], places: u8) -> Option<EntryRefusal>
-    ensures { result ≡ zone_fault B.Bound.kind.marks places bytes.now }
-{
-    refusal(bytes, takes_marks::<B>(), places)
+impl<'a> ZoneRecord<'a> {
+    // The spare fields are zero where their sum is.
+    #[tactic(auto, using(crate::proofs::Said::spare_sum))]
+    fn spare_set(&self) -> bool
+        ensures { result ≡ spare_set self.now.bytes.now }
+    {
+        bits(self.bytes, 0, 4) + bits(self.bytes, 56, 20) + bits(self.bytes, 76, 20) != 0
+    }
+
+    // Whether the token is absent, and its place not zero.
+    fn unused_place(&self, token: u8) -> bool
+        ensures { result ≡ unused_place self.now.bytes.now token }
+    {
+        self.tokens() < token && self.place(token) != 0
+    }
+
+    // Whether the token is present, and its place not in the net.
+    fn place_missing(&self, places: u8, token: u8) -> bool
+        ensures { result ≡ place_missing places self.now.bytes.now token }
+    {
+        token <= self.tokens() && places <= self.place(token)
+    }
+
+    fn is_present(&self, j: u8, i: u8) -> bool
+        ensures { result ≡ is_present self.now.bytes.now j i }
+    {
+        let tokens = self.tokens();
+        j <= tokens && i <= tokens
+    }
+
+    fn unclean_bound(&self, j: u8, i: u8) -> bool
+        ensures { result ≡ unclean_bound self.now.bytes.now j i }
+    {
+        unclean_entry(self.is_present(j, i), self.entry(j, i))
+    }
+
+    // Whether the bound of two points is present and has a mark.
+    fn marked_bound(&self, j: u8, i: u8) -> bool
+        ensures { result ≡ marked_bound self.now.bytes.now j i }
+    {
+        self.is_present(j, i) && self.entry(j, i).mark
+    }
+
+    fn not_zero(&self) -> bool
+        ensures { result ≡ not_zero self.now.bytes.now }
+    {
+        self.spare_set()
+            || some_token(|token| self.unused_place(token))
+            || some_bound(|j, i| self.unclean_bound(j, i))
+    }
+
+    // Tests the record under a net of so many places, lowest number first.
+    pub fn check<B: Bound>(&self, places: u8) -> Result<(), EntryRefusal>
+        ensures { result ≡ tested (zone_fault B.Bound.kind.marks places self.now.bytes.now) }
+    {
+        if self.bytes.len() != ZONE_SIZE {
+            return Err(EntryRefusal::WrongLength);
+        }
+        if self.not_zero() {
+            return Err(EntryRefusal::NotZero);
+        }
+        if MOST_TOKENS < self.tokens() {
+            return Err(EntryRefusal::TooMany);
+        }
+        if some_token(|token| self.place_missing(places, token)) {
+            return Err(EntryRefusal::NoSuchPlace);
+        }
+        if !takes_marks::<B>() && some_bound(|j, i| self.marked_bound(j, i)) {
+            return Err(EntryRefusal::MarkUnderPlain);
+        }
+        Ok(())
+    }
 }

@@ -1,61 +1,65 @@
 // What a zone record says: its tokens, their places, and its bounds.
-ghost use Rattle.std.specs.Prelude.{◌≡◌, ◌≤◌, false, ◌&&◌, unsigned_abs};
-ghost use Rattle.entries.specs.ZoneRecords.{tokens_of, place_at, says_no_limit, entry_bound, bound_at};
+ghost use Rattle.std.specs.Prelude.{◌≡◌, ◌≤◌, IfSome, unsigned_abs};
+ghost use Rattle.entries.specs.ZoneRecords.{tokens_of, place_at, entry_bound, bound_at};
 
 use crate::bits::bits;
-use crate::entry::{Entry, read_entry};
-use bounds::Bound;
+use crate::entry::Entry;
+use bounds::{Bound, bound_of};
 
-pub fn zone_tokens(bytes: &[u8]) -> u8
-    ensures { result ≡ tokens_of bytes.now }
-{
-    bits(bytes, 4, 4) as u8
+pub(crate) const MOST_TOKENS: u8 = 8;
+
+// Any bytes read as a zone record; `check` says whether they are one.
+#[derive(Clone, Copy)]
+pub struct ZoneRecord<'a> {
+    pub(crate) bytes: &'a [u8],
 }
 
-// The place of a token, numbered from 1; 0 of any other number.
-pub fn zone_place(bytes: &[u8], token: u8) -> u8
-    ensures { result ≡ place_at bytes.now token }
-{
-    if token < 1 || 8 < token {
-        return 0;
-    }
-    bits(bytes, 8 + 6 * usize::from(token - 1), 6) as u8
-}
-
-// The bound of a number. A kind without marks has it without its mark.
-fn number_bound<B: Bound>(number: i32, strict: bool) -> B
-    requires { unsigned_abs number ≤ 262143 }
-    ensures { result ≡ B.Bound.kind.number number (strict && B.Bound.kind.marks) }
-{
-    if let Ok(bound) = B::make(number, strict) {
-        return bound;
-    }
-    match B::make(number, false) {
-        Ok(bound) => bound,
-        Err(_) => B::no_limit(),
-    }
-}
-
+#[tactic(auto, using(crate::proofs::Sizes::limit_made))]
 fn entry_bound<B: Bound>(entry: Entry) -> B
-    requires { says_no_limit entry ≡ false → unsigned_abs entry.number ≤ 262143 }
+    requires { IfSome entry.number (λ n. unsigned_abs n ≤ 262143) }
     ensures { result ≡ entry_bound B.Bound.kind entry }
 {
-    if entry.says_no_limit() {
-        B::no_limit()
-    } else {
-        number_bound(entry.number, entry.mark)
-    }
+    entry
+        .number
+        .map_or(B::no_limit(), |number| bound_of(number, entry.mark))
 }
 
-// The bound of points `j` and `i`: zero where they are the same, and no limit past the last point.
-pub fn zone_bound<B: Bound>(bytes: &[u8], j: u8, i: u8) -> B
-    ensures { result ≡ bound_at B.Bound.kind bytes.now j i }
-{
-    if j == i {
-        return B::zero();
+impl<'a> ZoneRecord<'a> {
+    pub fn new(bytes: &'a [u8]) -> ZoneRecord<'a>
+        ensures { result.bytes.now ≡ bytes.now }
+    {
+        ZoneRecord { bytes }
     }
-    if 8 < j || 8 < i {
-        return B::no_limit();
+
+    #[tactic(auto, unfolding(crate::specs::ZoneRecords::tokens_of))]
+    pub fn tokens(&self) -> u8
+        ensures { result ≡ tokens_of self.now.bytes.now }
+    {
+        bits(self.bytes, 4, 4) as u8
     }
-    entry_bound(read_entry(bytes, j, i))
+
+    // The place of a token, numbered from 1; 0 of any other number.
+    #[tactic(auto, unfolding(crate::specs::ZoneRecords::place_at))]
+    pub fn place(&self, token: u8) -> u8
+        ensures { result ≡ place_at self.now.bytes.now token }
+    {
+        if !(1..=MOST_TOKENS).contains(&token) {
+            return 0;
+        }
+        bits(self.bytes, 8 + 6 * usize::from(token - 1), 6) as u8
+    }
+
+    // The bound of points `j` and `i`: zero where they are the same, and no limit past the last point.
+    #[tactic(auto, using(crate::proofs::Sizes::number_small))]
+    pub fn bound<B: Bound>(&self, j: u8, i: u8) -> B
+        ensures { result ≡ bound_at B.Bound.kind self.now.bytes.now j i }
+    {
+        if j == i {
+            return B::zero();
+        }
+        if MOST_TOKENS < j || MOST_TOKENS < i {
+            return B::no_limit();
+        }
+        entry_bound(self.entry(j, i))
+    }
 }

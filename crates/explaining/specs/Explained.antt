@@ -6,8 +6,7 @@ use Rattle.nets.specs.declared.side.Side.{Side}
 use Rattle.nets.specs.declared.side.Side.TheVariants.{Input, Output}
 use Rattle.records.specs.NetBytes.{arcs_at, slot_at}
 use Rattle.records.specs.NetRecords.{header_of, net_fault}
-use Rattle.records.specs.Refusals.{fault_text}
-use Rattle.records.specs.declared.fault.NetFault.{NetFault}
+use Rattle.records.specs.Refusals.{NetFault, fault_text}
 use Rattle.records.specs.declared.slot.Slot.{Slot}
 
 -- the texts of 1 to n, one after the other

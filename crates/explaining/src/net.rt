@@ -1,74 +1,108 @@
 // The whole text: a summary, then each transition with its arcs.
-ghost use Rattle.explaining.specs.Explained.{arc_line, side_lines, transition_lines, net_text, explained_text};
-ghost use Rattle.std.specs.Prelude.{◌≡◌, ◌++◌, IfOk, string_bytes, OnOk};
+ghost use Rattle.explaining.specs.Explained.{slot_line, side_lines, transition_lines, net_text, explained_text};
+ghost use Rattle.std.specs.Prelude.{◌≡◌, Some, IfOk, string_bytes};
 
 use crate::arc::ArcWords;
 use crate::summary::Summary;
 use nets::Side;
-use records::net::check_net;
 use records::packed::PackedNet;
+use records::slot::Slot;
 use std::alloc::{AllocError, Global};
+use std::fmt;
 
-// A line for an arc, if there is such an arc.
-fn write_arc(
-    text: &mut String,
-    net: &PackedNet<'_>,
-    transition: u8,
+// The line of an arc, if there is one.
+#[derive(Clone, Copy)]
+struct ArcLine {
     side: Side,
-    arc: u8,
-) -> Result<(), AllocError>
-    ensures { OnOk result (string_bytes text.new ≡ string_bytes text.old ++ arc_line net.now.bytes.now transition side arc) }
-{
-    let Some(slot) = net.slot(transition, side, arc) else {
-        return Ok(());
-    };
-    let words = ArcWords { side, slot };
-    writeln!(text, "  {words}")
+    slot: Option<Slot>,
+}
+
+impl fmt::Display for ArcLine {
+    ghost output = { λ a. Some (slot_line a.side a.slot) };
+
+    fn fmt<W: fmt::Write>(&self, f: &mut fmt::Formatter<W>) -> fmt::Result {
+        let Some(slot) = self.slot else {
+            return Ok(());
+        };
+        let words = ArcWords {
+            side: self.side,
+            slot,
+        };
+        writeln!(f, "  {words}")
+    }
 }
 
 // A line for each arc of a side.
-fn write_side(
-    text: &mut String,
-    net: &PackedNet<'_>,
+#[derive(Clone, Copy)]
+struct SideLines<'a> {
+    net: PackedNet<'a>,
     transition: u8,
     side: Side,
-) -> Result<(), AllocError>
-    ensures { OnOk result (string_bytes text.new ≡ string_bytes text.old ++ side_lines net.now.bytes.now transition side) }
-{
-    for arc in 1..=net.arc_count(transition, side) {
-        write_arc(text, net, transition, side, arc)?;
-    }
-    Ok(())
 }
 
-fn write_transition(text: &mut String, net: &PackedNet<'_>, number: u8) -> Result<(), AllocError>
-    ensures { OnOk result (string_bytes text.new ≡ string_bytes text.old ++ transition_lines net.now.bytes.now number) }
-{
-    writeln!(text, "transition {number}")?;
-    write_side(text, net, number, Side::Input)?;
-    write_side(text, net, number, Side::Output)
+#[derive(Clone, Copy)]
+struct TransitionLines<'a> {
+    net: PackedNet<'a>,
+    number: u8,
 }
 
-fn write_net(text: &mut String, net: &PackedNet<'_>) -> Result<(), AllocError>
-    ensures { OnOk result (string_bytes text.new ≡ string_bytes text.old ++ net_text net.now.bytes.now) }
-{
-    let header = net.header();
-    let summary = Summary(header);
-    writeln!(text, "{summary}")?;
-    for number in 1..=header.transitions {
-        write_transition(text, net, number)?;
+#[derive(Clone, Copy)]
+struct NetLines<'a>(PackedNet<'a>);
+
+impl<'a> fmt::Display for SideLines<'a> {
+    ghost output = { λ s. Some (side_lines s.net.bytes.now s.transition s.side) };
+
+    fn fmt<W: fmt::Write>(&self, f: &mut fmt::Formatter<W>) -> fmt::Result {
+        let side = self.side;
+        for arc in 1..=self.net.arc_count(self.transition, side) {
+            let slot = self.net.slot(self.transition, side, arc);
+            let line = ArcLine { side, slot };
+            write!(f, "{line}")?;
+        }
+        Ok(())
     }
-    Ok(())
+}
+
+impl<'a> fmt::Display for TransitionLines<'a> {
+    ghost output = { λ t. Some (transition_lines t.net.bytes.now t.number) };
+
+    fn fmt<W: fmt::Write>(&self, f: &mut fmt::Formatter<W>) -> fmt::Result {
+        let number = self.number;
+        let inputs = SideLines {
+            net: self.net,
+            transition: number,
+            side: Side::Input,
+        };
+        let outputs = SideLines {
+            side: Side::Output,
+            ..inputs
+        };
+        write!(f, "transition {number}\n{inputs}{outputs}")
+    }
+}
+
+impl<'a> fmt::Display for NetLines<'a> {
+    ghost output = { λ n. Some (net_text n.0.bytes.now) };
+
+    fn fmt<W: fmt::Write>(&self, f: &mut fmt::Formatter<W>) -> fmt::Result {
+        let net = self.0;
+        let header = net.header();
+        let summary = Summary(header);
+        writeln!(f, "{summary}")?;
+        for number in 1..=header.transitions {
+            let lines = TransitionLines { net, number };
+            write!(f, "{lines}")?;
+        }
+        Ok(())
+    }
 }
 
 // What the bytes say, line by line: the net, or in one line why they are refused.
 pub fn explain(heap: Global, bytes: &[u8]) -> Result<String, AllocError>
     ensures { IfOk result (λ s. string_bytes s ≡ explained_text bytes.now) }
 {
-    if let Err(fault) = check_net(bytes) {
-        return format!(in heap; "refused {fault}\n");
+    match PackedNet::read(bytes) {
+        Ok(net) => NetLines(net).to_string(heap),
+        Err(fault) => format!(in heap; "refused {fault}\n"),
     }
-    let mut text = String::new(heap);
-    write_net(&mut text, &PackedNet::new(bytes))?;
-    Ok(text)
 }

@@ -2,10 +2,10 @@
 ghost use Rattle.explaining.specs.Summaries.{counted_text, summary_text};
 ghost use Rattle.std.specs.Prelude.{Some};
 
-use records::header::NetHeader;
+use records::header::{NetHeader, NetKind};
 use std::fmt;
 
-// So many things of a name that takes an `s` for more than one.
+// So many things of a name that takes an `s` unless there is one.
 #[derive(Clone, Copy)]
 pub struct Counted {
     pub count: u8,
@@ -42,10 +42,10 @@ impl fmt::Display for Summary {
             count: header.transitions,
             name: "transition",
         };
-        if header.marked {
-            write!(f, "marked net: {places}, {transitions}")
-        } else {
-            write!(f, "plain net: {places}, {transitions}")
-        }
+        let kind = match header.kind {
+            NetKind::Plain => "plain",
+            NetKind::Marked => "marked",
+        };
+        write!(f, "{kind} net: {places}, {transitions}")
     }
 }

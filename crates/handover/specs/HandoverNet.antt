@@ -1,13 +1,13 @@
 -- The net of a line with two stops and one handover, and the proof that it keeps the limits of every net.
 -- Assumes nothing.
-use Rattle.std.specs.Prelude.{◌≡◌, ℕ, ◌≤◌, true, false, cond, [], ◌∷◌, ℤ, pos, ◌+ℤ◌, neg_ℤ, unsigned_abs, refl}
-use Rattle.std.proofs.Common.{arith, inr, sym, ap, ◌∙◌}
+use Rattle.std.specs.Prelude.{ℕ, ◌≤◌, false, [], ◌∷◌, pos, neg_ℤ}
+use Rattle.std.proofs.Common.{arith, sym}
 use Rattle.std.proofs.lemmas.Int.{ints}
-use Rattle.std.proofs.lemmas.Bool.{false≢true, le-leb}
-use Rattle.bounds.specs.Kinds.{Kind, Named, largest_size}
+use Rattle.bounds.specs.Kinds.{Kind}
 use Rattle.bounds.proofs.PlainLaws.{plain_kind}
 use Rattle.bounds.specs.declared.plain.PlainBound.{PlainBound}
 use Rattle.bounds.specs.declared.range.Range.{Range}
+use Rattle.nets.proofs.Ranges.{closed_range}
 use Rattle.nets.specs.Nets.{Transition, Net, RangeLimits, Limits, largest_end}
 
 -- the ages from lower to upper, both ends included
@@ -26,35 +26,9 @@ abbrev pub handover_net : ℕ → ℕ → Net PlainBound
 handover_net lower upper = record { places = 2; transitions = handover lower upper ∷ [] }
 
 -- ---- the limits
--- a bound without a mark asks nothing of the kind
-unmarked : {B : Type 0} (kind : Kind B) → false ≡ true → kind.marks ≡ true
-unmarked kind e = absurd (false≢true e)
-
--- the laws of numbers speak of a small number without a mark
-named : {B : Type 0} (kind : Kind B) (c : ℤ) → unsigned_abs c ≤ largest_size → Named kind.marks c false
-named kind c small = record { small = small; takes = unmarked kind }
-
-module _ {B : Type 0} (kind : Kind B) (lower upper : ℕ) (ordered : lower ≤ upper) (small : upper ≤ largest_end) where
-  sum_at_least_zero : kind.at_most kind.zero (kind.sum (ages kind lower upper).upper (ages kind lower upper).lower) ≡ true
-  sum_at_least_zero =
-      let low = neg_ℤ (pos lower) in
-      let difference = pos upper +ℤ low in
-      let within : unsigned_abs difference ≤ largest_size = omega (arith, ints) in
-      let sum = kind.numbers_sum (pos upper) low false false (named kind (pos upper) (omega (arith, ints))) (named kind low (omega (arith, ints))) in
-      let kept = ap (λ t. cond t (kind.number difference false) kind.no_limit) (le-leb (unsigned_abs difference) largest_size within) in
-      let order = kind.numbers_order (pos 0) difference false false (named kind (pos 0) (omega (arith, ints))) (named kind difference within) in
-      ap (kind.at_most kind.zero) (sum ∙ kept)
-      ∙ ap (λ z. kind.at_most z (kind.number difference false)) (sym kind.number_zero)
-      ∙ order
-      ∙ sym (omega (arith, ints))
-
-  pub ages_limits : RangeLimits kind (ages kind lower upper)
-  ages_limits =
-      record {
-        lower = record { end = lower; strict = false; small = omega arith; takes = unmarked kind; is = refl };
-        upper = inr (record { end = upper; strict = false; small = small; takes = unmarked kind; is = refl });
-        sum = sum_at_least_zero;
-      }
+pub ages_limits : {B : Type 0} (kind : Kind B) (lower upper : ℕ) → lower ≤ upper → upper ≤ largest_end → RangeLimits kind (ages kind lower upper)
+ages_limits kind lower upper ordered small =
+    closed_range kind lower false (omega arith) upper false small (sym (omega (arith, ints)))
 
 pub handover_limits : (lower upper : ℕ) → lower ≤ upper → upper ≤ largest_end → Limits plain_kind (handover_net lower upper)
 handover_limits lower upper ordered small =

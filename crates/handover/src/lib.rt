@@ -18,7 +18,7 @@ pub struct Handover {
 }
 
 impl Handover {
-    // None where the lower end is past the upper one, or the upper one past 32767.
+    // None where the lower end is past the upper one, or the upper one past 32767; either way there is no such range.
     pub fn new(lower: u16, upper: u16) -> Option<Handover>
         ensures { elim result [ Some h ↦ (h.lower ≡ lower) × (h.upper ≡ upper) | None ↦ (upper < lower) ⊎ (32767 < upper) ] }
     {

@@ -1,22 +1,9 @@
 // The line as a net store: places 0 and 1, and one transition, which is number 1 and has one arc on each side.
-ghost use Rattle.std.specs.Prelude.{◌≡◌, ◌≤◌, false, unsigned_abs};
-ghost use Rattle.bounds.proofs.PlainLaws.{plain_kind};
 ghost use Rattle.handover.specs.HandoverNet.{handover_net};
 
 use crate::Handover;
-use bounds::{Bound, PlainBound, Range};
+use bounds::{PlainBound, Range, bound_of};
 use nets::{NetStore, Side};
-
-// The bound of a number from -32767 to 32767; making one of those is never refused.
-fn bound(number: i32) -> PlainBound
-    requires { unsigned_abs number ≤ 32767 }
-    ensures { result ≡ plain_kind.number number false }
-{
-    match PlainBound::make(number, false) {
-        Ok(bound) => bound,
-        Err(_) => PlainBound::no_limit(),
-    }
-}
 
 impl NetStore<PlainBound> for Handover {
     ghost net = { λ s. handover_net s.lower s.upper };
@@ -33,7 +20,7 @@ impl NetStore<PlainBound> for Handover {
 
     // One on each side.
     fn arcs(&self, transition: u8, _side: Side) -> u8 {
-        if transition == 1 { 1 } else { 0 }
+        u8::from(transition == 1)
     }
 
     // The input arc has place 0, which is also the answer where there is no such arc.
@@ -47,12 +34,12 @@ impl NetStore<PlainBound> for Handover {
     fn range(&self, transition: u8, side: Side, arc: u8) -> Range<PlainBound> {
         match (transition, side, arc) {
             (1, Side::Input, 1) => Range {
-                upper: bound(i32::from(self.upper)),
-                lower: bound(-i32::from(self.lower)),
+                upper: bound_of(i32::from(self.upper), false),
+                lower: bound_of(-i32::from(self.lower), false),
             },
             (1, Side::Output, 1) => Range {
-                upper: bound(0),
-                lower: bound(0),
+                upper: bound_of(0, false),
+                lower: bound_of(0, false),
             },
             _ => Range::from_zero(),
         }

@@ -6,14 +6,9 @@ use loops::judge;
 use std::io::Read;
 use std::process::ExitCode;
 
-fn read_input(rt: &HostRuntime) -> anyhow::Result<Vec<u8>> {
+fn main(rt: HostRuntime) -> anyhow::Result<ExitCode> {
     let mut text = Vec::new(rt.alloc());
     rt.stdin().read_to_end(&mut text)?;
-    Ok(text)
-}
-
-fn main(rt: HostRuntime) -> anyhow::Result<ExitCode> {
-    let text = read_input(&rt)?;
     match judge::<MarkedBound>(&text) {
         Ok(verdict) => {
             rt.println(verdict)?;

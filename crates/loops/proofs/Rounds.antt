@@ -10,7 +10,7 @@ use Rattle.loops.specs.declared.line.LineFault.{LineFault}
 use Rattle.loops.specs.declared.line.LineFault.TheVariants.{TooManyLines}
 use Rattle.loops.specs.Lines.{lines, grown, first_line, after_line}
 use Rattle.loops.specs.Readings.{line_bound}
-use Rattle.loops.specs.Loops.{total_after, total, with_bound, added, Allowed, Faulty, most_lines}
+use Rattle.loops.specs.Loops.{total_after, total, named, with_bound, added, Allowed, Faulty, most_lines}
 
 -- ---- lines
 step_line : (b : ℕ) (text : List ℕ) (t : Bool) → grown b (lines text) ≡ (b ∷ first_line text) ∷ lines (after_line text) → cond t ([] ∷ lines text) (grown b (lines text)) ≡ cond t [] (b ∷ first_line text) ∷ lines (cond t text (after_line text))
@@ -20,18 +20,6 @@ step_line b text false e = e
 pub split_lines : (b : ℕ) (text : List ℕ) → lines (b ∷ text) ≡ first_line (b ∷ text) ∷ lines (after_line (b ∷ text))
 split_lines b [] = step_line b [] (eqb b 10) refl
 split_lines b (c ∷ text) = step_line b (c ∷ text) (eqb b 10) (ap (grown b) (split_lines c text))
-
-cut_line : (t : Bool) (text rest : List ℕ) → length rest ≤ length text → length (cond t text rest) ≤ length text
-cut_line true text rest h = omega arith
-cut_line false text rest h = h
-
-after_within : (text : List ℕ) → length (after_line text) ≤ length text
-after_within [] = omega arith
-after_within (b ∷ text) = omega (arith, cut_line (eqb b 10) text (after_line text) (after_within text))
-
-pub after_shorter : (text : List ℕ) → 0 < length text → length (after_line text) < length text
-after_shorter [] h = absurd (omega arith)
-after_shorter (b ∷ text) h = omega (arith, cut_line (eqb b 10) text (after_line text) (after_within text))
 
 pub next_line : (text : List ℕ) → 0 < length text → lines text ≡ first_line text ∷ lines (after_line text)
 next_line [] h = absurd (omega arith)
@@ -61,6 +49,14 @@ added_bound kind sum next (Err f) e = let z : ◌≡◌ {A = ℕ} 0 1 = cc in ab
 added_fault : {B : Type 0} (kind : Kind B) (sum : B) (f : LineFault) (r : Result B LineFault) → Err f ≡ with_bound kind sum r → r ≡ Err f
 added_fault kind sum f (Ok b) e = let z : ◌≡◌ {A = ℕ} 0 1 = cc in absurd (omega arith)
 added_fault kind sum f (Err g) e = sym e
+
+pub named_sum : {B : Type 0} (count : ℕ) (sum : B) (r : Result B LineFault) → Ok sum ≡ named count r → Ok sum ≡ r
+named_sum count sum (Ok b) e = cc
+named_sum count sum (Err f) e = let z : ◌≡◌ {A = ℕ} 0 1 = cc in absurd (omega arith)
+
+pub named_fault : {B : Type 0} (count : ℕ) (bad : BadLine) (r : Result B LineFault) → Err bad ≡ named count r → (bad.line ≡ count + 1) × (Err bad.fault ≡ r)
+named_fault count bad (Ok b) e = let z : ◌≡◌ {A = ℕ} 0 1 = cc in absurd (omega arith)
+named_fault count bad (Err f) e = let same : bad ≡ record { line = count + 1; fault = f } = cc in (ap (λ b. b.line) same, ap (λ b. Err b.fault) same)
 
 module _ {B : Type 0} (kind : Kind B) (text : List ℕ) where
   pub progress_none : (sum : B) → sum ≡ kind.zero → Progress kind text text sum 0

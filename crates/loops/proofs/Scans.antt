@@ -1,48 +1,57 @@
 -- Steps of the loops that look for a line feed and read digits. Assumes nothing.
-use Rattle.std.proofs.Common.{◌≡◌, ℕ, zero, suc, ◌+◌, ◌-◌, ◌*◌, ◌<◌, ◌≤◌, min, Bool, true, false, cond, eqb, leb, ◌⊎◌, List, [], ◌∷◌, ◌++◌, length, get_or, take, drop, ℤ, pos, negsuc, neg_ℤ, nat_abs, Some, None, Ok, codes, Option, sym, refl, ap, ◌∙◌, inl, inr, ⊎_elim, append_assoc, arith}
+use Rattle.std.proofs.Common.{◌≡◌, ℕ, zero, suc, ◌+◌, ◌-◌, ◌*◌, ◌<◌, ◌≤◌, min, Bool, true, false, not, cond, eqb, leb, ltb, ◌==◌, List, [], ◌∷◌, length, get_or, take, drop, ℤ, pos, negsuc, neg_ℤ, nat_abs, Some, None, Ok, codes, Option, sym, refl, ap, ◌∙◌, ⊎_elim, add-one, one-add, arith}
 use borrow.Author.Differences.{ints}
-use Rattle.std.proofs.lemmas.List.{take_more, drop_more, drop_all, take_all, append-nil}
+use Rattle.std.proofs.lemmas.List.{drop_more, drop_all, take_all}
 use Rattle.std.proofs.lemmas.Slice.Eq.{bytes_eq-Decides}
 use Rattle.std.specs.Str.{bytes_eq}
-use Rattle.std.proofs.lemmas.Bool.{eq-eqb, ne_eqb, and_from, and_left, and_right, le-leb, lt-leb, leb-true, leb-false, cond-false, cases_Bool}
+use Rattle.std.proofs.lemmas.Bool.{ne_eqb, lt-leb, leb-true, leb-false, ltb-false, cond-false, cases_Bool}
+use Rattle.std.specs.List.{position_or_len}
 use Rattle.std.specs.Option.{option_map}
 use Rattle.bounds.specs.Kinds.{Kind, made, largest_number}
 use Rattle.loops.specs.Readings.{bound_of, unmade, number_bound, marked_bound, line_bound}
 use Rattle.loops.specs.Lines.{first_line, after_line, digit, digits_after, natural, integer, clipped, signed_clipped}
 
--- the bytes before i are no line feeds
-pub record Scanned (text : List ℕ) (i : ℕ) : Type 0 where
-  pub line : first_line text ≡ take i text ++ first_line (drop i text)
-  pub rest : after_line text ≡ after_line (drop i text)
+-- ---- the first line feed
+abbrev pub feed : ℕ → Bool
+feed b = b == 10
 
-pub scanned_none : (text : List ℕ) → Scanned text 0
-scanned_none text = record { line = refl; rest = refl }
+line_by : (t : Bool) (b : ℕ) (text : List ℕ) (n : ℕ) → first_line text ≡ take n text → cond t [] (b ∷ first_line text) ≡ take (cond (not t) (1 + n) 0) (b ∷ text)
+line_by true b text n e = refl
+line_by false b text n e = ap (λ l. b ∷ l) e ∙ ap (λ m. take m (b ∷ text)) (sym (one-add n))
 
-module _ (text : List ℕ) (i : ℕ) (here : i < length text) (so_far : Scanned text i) where
-  pub scanned_more : (get_or text i 0 ≡ 10 → ⊥) → Scanned text (i + 1)
-  scanned_more other =
-      let cut = drop_more text i 0 here in
-      let test = ne_eqb (get_or text i 0) 10 other in
-      record {
-        line =
-            so_far.line
-            ∙ ap (λ t. take i text ++ first_line t) cut
-            ∙ ap (λ t. take i text ++ cond t [] (get_or text i 0 ∷ first_line (drop (i + 1) text))) test
-            ∙ sym (append_assoc (take i text) (get_or text i 0 ∷ []) (first_line (drop (i + 1) text)))
-            ∙ ap (λ t. t ++ first_line (drop (i + 1) text)) (sym (take_more text i 0 here));
-        rest = so_far.rest ∙ ap after_line cut ∙ ap (λ t. cond t (drop (i + 1) text) (after_line (drop (i + 1) text))) test;
-      }
+line_to : (text : List ℕ) → first_line text ≡ take (position_or_len feed text) text
+line_to [] = refl
+line_to (b ∷ text) = line_by (b == 10) b text (position_or_len feed text) (line_to text)
 
-  pub line_found : get_or text i 0 ≡ 10 → (first_line text ≡ take i text) × (after_line text ≡ drop (i + 1) text)
-  line_found feed =
-      let cut = drop_more text i 0 here in
-      let test = eq-eqb (get_or text i 0) 10 feed in
-      (so_far.line ∙ ap (λ t. take i text ++ first_line t) cut ∙ ap (λ t. take i text ++ cond t [] (get_or text i 0 ∷ first_line (drop (i + 1) text))) test ∙ append-nil (take i text), so_far.rest ∙ ap after_line cut ∙ ap (λ t. cond t (drop (i + 1) text) (after_line (drop (i + 1) text))) test)
+rest_by : (t : Bool) (b : ℕ) (text : List ℕ) (n : ℕ) → after_line text ≡ drop (suc n) text → cond t text (after_line text) ≡ drop (suc (cond (not t) (1 + n) 0)) (b ∷ text)
+rest_by true b text n e = refl
+rest_by false b text n e = e ∙ ap (λ m. drop m text) (sym (one-add n))
 
-pub line_all : (text : List ℕ) (i : ℕ) → length text ≤ i → Scanned text i → (first_line text ≡ text) × (after_line text ≡ [])
-line_all text i past so_far =
-    let cut = drop_all i text past in
-    (so_far.line ∙ ap (λ t. take i text ++ first_line t) cut ∙ append-nil (take i text) ∙ take_all i text past, so_far.rest ∙ ap after_line cut)
+rest_from : (text : List ℕ) → after_line text ≡ drop (suc (position_or_len feed text)) text
+rest_from [] = refl
+rest_from (b ∷ text) = rest_by (b == 10) b text (position_or_len feed text) (rest_from text)
+
+-- the place of the first line feed, if there is one
+abbrev pub Feeds : List ℕ → Option ℕ → Type 0
+Feeds text r = r ≡ cond (ltb (position_or_len feed text) (length text)) (Some (position_or_len feed text)) None
+
+at_place : (t : Bool) (p i : ℕ) → Some i ≡ cond t (Some p) None → i ≡ p
+at_place true p i e = cc
+at_place false p i e = let z : ◌≡◌ {A = ℕ} 0 1 = cc in absurd (omega arith)
+
+no_place : (t : Bool) (p : ℕ) → None ≡ cond t (Some p) None → t ≡ false
+no_place true p e = let z : ◌≡◌ {A = ℕ} 0 1 = cc in absurd (omega arith)
+no_place false p e = refl
+
+pub line_found : (text : List ℕ) (i : ℕ) → Feeds text (Some i) → (first_line text ≡ take i text) × (after_line text ≡ drop (i + 1) text)
+line_found text i e =
+    let p = at_place (ltb (position_or_len feed text) (length text)) (position_or_len feed text) i e in
+    (line_to text ∙ ap (λ n. take n text) (sym p), rest_from text ∙ ap (λ n. drop (suc n) text) (sym p) ∙ ap (λ n. drop n text) (sym (add-one i)))
+
+pub line_all : (text : List ℕ) → Feeds text None → (first_line text ≡ text) × (after_line text ≡ [])
+line_all text e =
+    let past : length text ≤ position_or_len feed text = ltb-false (position_or_len feed text) (length text) (no_place _ (position_or_len feed text) e) in
+    (line_to text ∙ take_all (position_or_len feed text) text past, rest_from text ∙ drop_all (suc (position_or_len feed text)) text (omega (arith, past)))
 
 -- ---- digits
 on_digit : (t : Bool) (x y : Option ℕ) → option_map clipped x ≡ option_map clipped y → option_map clipped (cond t x None) ≡ option_map clipped (cond t y None)
@@ -58,9 +67,6 @@ clipped_after m n (b ∷ text) e = on_digit (digit b) _ _ (clipped_after (10 * m
 abbrev pub Read : List ℕ → ℕ → ℕ → Type 0
 Read text i number = option_map clipped (digits_after number (drop i text)) ≡ option_map clipped (digits_after 0 text)
 
-digit_yes : (b : ℕ) → 48 ≤ b → b ≤ 57 → digit b ≡ true
-digit_yes b l h = and_from (leb 48 b) (leb b 57) (le-leb 48 b l) (le-leb b 57 h)
-
 module _ (text : List ℕ) (i number : ℕ) (here : i < length text) (so_far : Read text i number) where
   at_digit : (t : Bool) → digit (get_or text i 0) ≡ t → option_map clipped (cond t (digits_after (10 * number + (get_or text i 0 - 48)) (drop (i + 1) text)) None) ≡ option_map clipped (digits_after 0 text)
   at_digit t e =
@@ -68,17 +74,13 @@ module _ (text : List ℕ) (i number : ℕ) (here : i < length text) (so_far : R
       ∙ ap (λ r. option_map clipped (digits_after number r)) (sym (drop_more text i 0 here))
       ∙ so_far
 
-  pub read_more : (next : ℕ) → 48 ≤ get_or text i 0 → get_or text i 0 ≤ 57 → next ≡ min (10 * number + (get_or text i 0 - 48)) 262144 → Read text (i + 1) next
-  read_more next l h e =
+  pub read_more : (next : ℕ) → digit (get_or text i 0) ≡ true → next ≡ min (10 * number + (get_or text i 0 - 48)) 262144 → Read text (i + 1) next
+  read_more next d e =
       clipped_after next (10 * number + (get_or text i 0 - 48)) (drop (i + 1) text) (omega arith)
-      ∙ at_digit true (digit_yes (get_or text i 0) l h)
+      ∙ at_digit true d
 
   pub read_broken : digit (get_or text i 0) ≡ false → None ≡ option_map clipped (digits_after 0 text)
   read_broken e = at_digit false e
-
-pub digit_no : (b : ℕ) → (b < 48) ⊎ (57 < b) → digit b ≡ false
-digit_no b (inl h) = and_left (leb 48 b) (leb b 57) (lt-leb 48 b h)
-digit_no b (inr h) = and_right (leb 48 b) (leb b 57) (lt-leb b 57 h)
 
 -- a text with a byte is read from 0
 pub natural_some : (text : List ℕ) → 0 < length text → natural text ≡ digits_after 0 text

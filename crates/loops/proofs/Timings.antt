@@ -6,6 +6,9 @@ use lib.Signed.{le_z}
 use Rattle.std.proofs.lemmas.List.{append-nil, nil_from_length}
 use Rattle.std.proofs.lemmas.Bool.{le-leb, leb-true, cond-true, true≢false, false≢true}
 use Rattle.std.specs.Str.{bytes_eq}
+use Rattle.bounds.specs.Codings.{either_marked}
+use Rattle.bounds.specs.Limits.{scaled_sum}
+use Rattle.std.proofs.Math.Bool.{or_assoc}
 use Rattle.bounds.specs.Kinds.{Kind, Named, largest_number, largest_size, number_allows, place}
 use Rattle.bounds.specs.declared.made.MakeError.TheVariants.{OutsideLimits, MarkNotTaken}
 use Rattle.loops.specs.declared.line.LineFault.{LineFault}
@@ -83,12 +86,6 @@ record Reached {B : Type 0} (kind : Kind B) (k : ℕ) (bs : List B) (e : ℤ) : 
   allowed : Allowed kind k bs ds
   sum : added ds ≡ e
 
-spread : (k : ℕ) (c t : ℤ) → pos k *ℤ (c +ℤ t) ≡ pos k *ℤ c +ℤ pos k *ℤ t
-spread k c t =
-    let e : up (c +ℤ t) + down c + down t ≡ down (c +ℤ t) + up c + up t = omega (arith, ints) in
-    let f : k * (up (c +ℤ t) + down c + down t) ≡ k * (down (c +ℤ t) + up c + up t) = ap (λ n. k * n) e in
-    omega (arith, ints, f, mul-add k (up (c +ℤ t) + down c) (down t), mul-add k (up (c +ℤ t)) (down c), mul-add k (down (c +ℤ t) + up c) (up t), mul-add k (down (c +ℤ t)) (up c))
-
 module _ {B : Type 0} (kind : Kind B) (k : ℕ) (grid : 1 ≤ k) where
   greatest_allowed : (c : ℤ) (s : Bool) → number_allows k c s (pos k *ℤ c -ℤ pos (short s)) ≡ true
   greatest_allowed c true = sym (omega (arith, ints))
@@ -108,7 +105,7 @@ module _ {B : Type 0} (kind : Kind B) (k : ℕ) (grid : 1 ≤ k) where
       record {
         ds = (pos k *ℤ c -ℤ pos (short s)) ∷ r.ds;
         allowed = (number_allowed b c s _ small takes is (greatest_allowed c s), r.allowed);
-        sum = ap (λ z. (pos k *ℤ c -ℤ pos (short s)) +ℤ z) r.sum ∙ omega (arith, ints, spread k c t);
+        sum = ap (λ z. (pos k *ℤ c -ℤ pos (short s)) +ℤ z) r.sum ∙ omega (arith, ints, scaled_sum k c t);
       }
 
   -- some differences that are allowed
@@ -136,25 +133,17 @@ module _ {B : Type 0} (kind : Kind B) (k : ℕ) (grid : 1 ≤ k) where
       inr (λ e. record { ds = (e -ℤ added r.ds) ∷ r.ds; allowed = (ap (λ x. kind.allows k x (e -ℤ added r.ds)) is ∙ kind.no_limit_allows k (e -ℤ added r.ds) grid, r.allowed); sum = omega (arith, ints) })
 
 -- ---- the sum of numbers
-or_takes : (m s t : Bool) → (s ≡ true → m ≡ true) → (t ≡ true → m ≡ true) → (s || t) ≡ true → m ≡ true
-or_takes m true t p q e = p refl
-or_takes m false t p q e = q e
-
-or_assoc : (r s t : Bool) → ((r || s) || t) ≡ (r || (s || t))
-or_assoc true s t = refl
-or_assoc false s t = refl
-
 -- a sum that is not below zero leaves the first bound room for what the others need
 fits_first : (k w : ℕ) (c t : ℤ) (s u : Bool) → w < k → (u ≡ false → w ≡ 0) → le_z (place (pos 0) false) (place (c +ℤ t) (s || u)) ≡ true → number_allows k c s (neg_ℤ (pos k *ℤ t -ℤ pos w)) ≡ true
 fits_first k w c t true u lt few h =
     let l : 1 + down (c +ℤ t) ≤ up (c +ℤ t) = omega (arith, ints) in
-    sym (omega (arith, ints, spread k c t, mul-le-mul_left k l, mul-add k 1 (down (c +ℤ t))))
+    sym (omega (arith, ints, scaled_sum k c t, mul-le-mul_left k l, mul-add k 1 (down (c +ℤ t))))
 fits_first k w c t false true lt few h =
     let l : 1 + down (c +ℤ t) ≤ up (c +ℤ t) = omega (arith, ints) in
-    sym (omega (arith, ints, spread k c t, mul-le-mul_left k l, mul-add k 1 (down (c +ℤ t))))
+    sym (omega (arith, ints, scaled_sum k c t, mul-le-mul_left k l, mul-add k 1 (down (c +ℤ t))))
 fits_first k w c t false false lt few h =
     let l : down (c +ℤ t) ≤ up (c +ℤ t) = omega (arith, ints) in
-    sym (omega (arith, ints, few refl, spread k c t, mul-le-mul_left k l))
+    sym (omega (arith, ints, few refl, scaled_sum k c t, mul-le-mul_left k l))
 
 module _ {B : Type 0} (kind : Kind B) where
   summed : {bs : List B} {t : ℤ} {u : Bool} {w : ℕ} (c : ℤ) (s : Bool) → Numbers kind bs t u w → nat_abs c + largest_number * length bs ≤ largest_size → (s ≡ true → kind.marks ≡ true) → total_after kind (kind.number c s) bs ≡ kind.number (c +ℤ t) (s || u)
@@ -170,7 +159,7 @@ module _ {B : Type 0} (kind : Kind B) where
       ∙ kind.numbers_sum c d s r (record { small = omega arith; takes = takes }) (record { small = omega arith; takes = marked })
       ∙ cond-true (leb (nat_abs (c +ℤ d)) largest_size) _ _ (le-leb (nat_abs (c +ℤ d)) largest_size (omega arith)) in
       ap (λ x. total_after kind x bs) one
-      ∙ summed (c +ℤ d) (s || r) rest (omega arith) (or_takes kind.marks s r takes marked)
+      ∙ summed (c +ℤ d) (s || r) rest (omega arith) (either_marked kind.marks s r takes marked)
       ∙ ap (λ z. kind.number z ((s || r) || u)) (+ℤ_assoc c d t)
       ∙ ap (kind.number (c +ℤ (d +ℤ t))) (or_assoc s r u)
 
@@ -180,7 +169,7 @@ module _ {B : Type 0} (kind : Kind B) where
 
   marks_sum : {bs : List B} {t : ℤ} {u : Bool} {w : ℕ} → Numbers kind bs t u w → u ≡ true → kind.marks ≡ true
   marks_sum none e = absurd (false≢true e)
-  marks_sum (more {u = u} c s small takes is rest) e = or_takes kind.marks s u takes (marks_sum rest) e
+  marks_sum (more {u = u} c s small takes is rest) e = either_marked kind.marks s u takes (marks_sum rest) e
 
   few_strict : {bs : List B} {t : ℤ} {u : Bool} {w : ℕ} → Numbers kind bs t u w → (w ≤ length bs) × (u ≡ false → w ≡ 0)
   few_strict none = (omega arith, λ e. refl)

@@ -32,6 +32,11 @@ abbrev pub with_bound : {B : Type 0} → Kind B → B → Result B LineFault →
 with_bound kind sum (Ok b) = Ok (kind.sum sum b)
 with_bound kind sum (Err fault) = Err fault
 
+-- the fault of the line after so many good ones
+abbrev pub named : {B : Type 0} → ℕ → Result B LineFault → Result B BadLine
+named count (Ok sum) = Ok sum
+named count (Err fault) = Err (record { line = count + 1; fault = fault })
+
 abbrev pub verdict_of : {B : Type 0} → Kind B → B → Verdict B
 verdict_of kind sum = record { sum = sum; possible = kind.at_most kind.zero sum }
 

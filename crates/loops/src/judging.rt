@@ -1,8 +1,9 @@
 // The verdict on a whole loop.
 ghost use Rattle.std.specs.Prelude.{◌≡◌, ◌+◌, ◌≤◌, Some};
-ghost use Rattle.loops.specs.Loops.{Judged, verdict_of, with_bound, most_lines};
+ghost use Rattle.loops.specs.Loops.{Judged, named, verdict_of, with_bound, most_lines};
 ghost use Rattle.loops.specs.Readings.{line_bound};
-ghost use Rattle.loops.specs.VerdictTexts.{bad_line_text};
+ghost use Rattle.loops.specs.VerdictTexts.{bad_line_text, verdict_text};
+ghost use Rattle.std.specs.Option.{option_map};
 
 use crate::line::{LineFault, read_bound};
 use crate::text::split_line;
@@ -46,39 +47,41 @@ impl BadLine {
     }
 }
 
-// The sum with the bound of one more line.
-fn add_line<B: Bound>(sum: B, line: &[u8]) -> Result<B, LineFault>
-    ensures { result ≡ with_bound B.Bound.kind sum (line_bound B.Bound.kind line.now) }
+// The sum with the bound of the line after `count` good ones.
+fn add_line<B: Bound>(sum: B, line: &[u8], count: u32) -> Result<B, BadLine>
+    requires { count ≤ most_lines }
+    ensures { result ≡ named count (with_bound B.Bound.kind sum (line_bound B.Bound.kind line.now)) }
 {
-    match read_bound::<B>(line) {
-        Ok(bound) => Ok(sum.sum(bound)),
-        Err(fault) => Err(fault),
-    }
+    read_bound::<B>(line)
+        .map(|bound| sum.sum(bound))
+        .map_err(|fault| BadLine::after(count, fault))
 }
 
 // Adds up the bounds of a closed loop, one to a line.
 pub fn judge<B: Bound>(text: &[u8]) -> Result<Verdict<B>, BadLine>
     ensures { Judged B.Bound.kind text.now result }
 {
+    // Pieces of `split` are no lines: an empty text has one, and a last line feed has one behind it.
     let mut rest = text;
     let mut sum = B::zero();
-    let mut count = 0;
-    while !rest.is_empty() {
-        if count == MOST_LINES {
-            return Err(BadLine::after(count, LineFault::TooManyLines));
+    for count in 0..MOST_LINES {
+        if rest.is_empty() {
+            break;
         }
         let (line, after) = split_line(rest);
-        match add_line(sum, line) {
-            Ok(total) => sum = total,
-            Err(fault) => return Err(BadLine::after(count, fault)),
-        }
-        count += 1;
+        sum = add_line(sum, line, count)?;
         rest = after;
     }
-    Ok(Verdict::of(sum))
+    if rest.is_empty() {
+        Ok(Verdict::of(sum))
+    } else {
+        Err(BadLine::after(MOST_LINES, LineFault::TooManyLines))
+    }
 }
 
 impl<B: fmt::Display> fmt::Display for Verdict<B> {
+    ghost output = { λ v. option_map (verdict_text v.possible) (B.Display.output v.sum) };
+
     fn fmt<W: fmt::Write>(&self, f: &mut fmt::Formatter<W>) -> fmt::Result {
         let sum = &self.sum;
         if self.possible {

@@ -26,9 +26,7 @@ impl From<MakeError> for LineFault {
 fn number_bound<B: Bound>(text: &[u8], strict: bool) -> Result<B, LineFault>
     ensures { result ≡ number_bound B.Bound.kind text.now strict }
 {
-    let Some(number) = integer(text) else {
-        return Err(LineFault::NotABound);
-    };
+    let number = integer(text).ok_or(LineFault::NotABound)?;
     Ok(B::make(number, strict)?)
 }
 

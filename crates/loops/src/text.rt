@@ -11,12 +11,10 @@ pub fn split_line(text: &[u8]) -> (&[u8], &[u8])
     ensures line { result.0.now ≡ first_line text.now }
     ensures rest { result.1.now ≡ after_line text.now }
 {
-    for (i, b) in text.iter().enumerate() {
-        if *b == b'\n' {
-            return (&text[0..i], &text[i + 1..]);
-        }
+    match text.iter().position(|b| *b == b'\n') {
+        Some(i) => (&text[..i], &text[i + 1..]),
+        None => (text, &[]),
     }
-    (text, &text[text.len()..])
 }
 
 // The number that decimal digits write, at most `PAST`.
@@ -28,8 +26,9 @@ fn natural(text: &[u8]) -> Option<u32>
         return None;
     }
     let mut number = 0;
+    // `try_fold` asks that its closure may be called at every number, and ten times a number past `PAST` may not fit.
     for b in text {
-        if *b < b'0' || b'9' < *b {
+        if !b.is_ascii_digit() {
             return None;
         }
         number = (10 * number + u32::from(*b - b'0')).min(PAST);
@@ -42,13 +41,7 @@ pub fn integer(text: &[u8]) -> Option<i32>
     ensures { result ≡ option_map signed_clipped (integer text.now) }
 {
     match text.strip_prefix(b"-") {
-        Some(digits) => {
-            let number = natural(digits)?;
-            Some(-(number as i32))
-        }
-        None => {
-            let number = natural(text)?;
-            Some(number as i32)
-        }
+        Some(digits) => natural(digits).map(|number| -(number as i32)),
+        None => natural(text).map(|number| number as i32),
     }
 }

@@ -5,7 +5,8 @@ mod fitting;
 mod matching;
 mod next;
 mod numerals;
+mod outputs;
 
 pub use fitting::is_among;
-pub use matching::{is_matching, next_matching, output_count};
+pub use matching::{arc_count, is_matching, next_matching};
 pub use numerals::digits;

@@ -1,35 +1,35 @@
 // Matchings of a transition's output arcs with the tokens of a zone.
-ghost use Rattle.std.specs.Prelude.{◌≡◌, ◌≤◌, length};
+ghost use Rattle.std.specs.Prelude.{◌≡◌, ◌≤◌, map, length};
 ghost use Rattle.matchings.specs.Next.{Next};
 ghost use Rattle.nets.specs.Nets.{arcs_of};
 ghost use Rattle.nets.specs.declared.side.Side.TheVariants.{Output};
-ghost use Rattle.zones.specs.Digits.{four_places};
 ghost use Rattle.zones.specs.Predecessors.{is_matching};
 
-use crate::fitting::count_fitting;
-use crate::next::next_fitting;
 use crate::numerals::digits;
+use crate::outputs::Outputs;
+use arrayvec::ArrayVec;
 use bounds::Bound;
 use nets::{NetStore, Side};
 
-pub fn output_count<B: Bound, N: NetStore<B>>(store: &N, transition: u8) -> usize
-    ensures is { result ≡ length (arcs_of (N.NetStore.net store.now) transition Output) }
+// How many arcs the transition has on the side.
+pub fn arc_count<B: Bound, N: NetStore<B>>(store: &N, transition: u8, side: Side) -> u8
+    ensures is { result ≡ length (arcs_of (N.NetStore.net store.now) transition side) }
     ensures few { result ≤ 4 }
 {
     store.keeps_limits();
-    usize::from(store.arcs(transition, Side::Output))
+    store.arcs(transition, side)
 }
 
-// The place of each output arc, 0 past the last.
-fn output_places<B: Bound, N: NetStore<B>>(store: &N, transition: u8) -> [u8; 4]
-    ensures { result ≡ four_places B.Bound.kind (N.NetStore.net store.now) transition }
+// The place of each output arc.
+fn arc_places<B: Bound, N: NetStore<B>>(store: &N, transition: u8) -> ArrayVec<u8, 4>
+    ensures are { result.items ≡ map (λ a. a.place) (arcs_of (N.NetStore.net store.now) transition Output) }
+    ensures few { length (arcs_of (N.NetStore.net store.now) transition Output) ≤ 4 }
 {
-    [
-        store.place(transition, Side::Output, 1),
-        store.place(transition, Side::Output, 2),
-        store.place(transition, Side::Output, 3),
-        store.place(transition, Side::Output, 4),
-    ]
+    let mut places = ArrayVec::new();
+    for arc in 1..=arc_count(store, transition, Side::Output) {
+        places.push(store.place(transition, Side::Output, arc));
+    }
+    places
 }
 
 // Whether the number says a matching with tokens in these places.
@@ -41,9 +41,12 @@ pub fn is_matching<B: Bound, N: NetStore<B>>(
 ) -> bool
     ensures { result ≡ is_matching places.now (arcs_of (N.NetStore.net store.now) transition Output) matching }
 {
-    let count = output_count(store, transition);
-    let arcs = output_places(store, transition);
-    count_fitting(&arcs[..count], places, &digits(matching)) == 4
+    let arcs = arc_places(store, transition);
+    let outputs = Outputs {
+        arcs: &arcs,
+        tokens: places,
+    };
+    outputs.count_fitting(&digits(matching)) == 4
 }
 
 // The next matching above a number, which need not be one.
@@ -55,7 +58,10 @@ pub fn next_matching<B: Bound, N: NetStore<B>>(
 ) -> Option<u16>
     ensures { Next (is_matching places.now (arcs_of (N.NetStore.net store.now) transition Output)) after result }
 {
-    let count = output_count(store, transition);
-    let arcs = output_places(store, transition);
-    next_fitting(&arcs[..count], places, after)
+    let arcs = arc_places(store, transition);
+    let outputs = Outputs {
+        arcs: &arcs,
+        tokens: places,
+    };
+    outputs.next(after)
 }

@@ -6,12 +6,7 @@ ghost use Rattle.zones.specs.Predecessors.{fields};
 pub fn digits(number: u16) -> [u8; 4]
     ensures { result ≡ fields number }
 {
-    [
-        (number / 4096 % 16) as u8,
-        (number / 256 % 16) as u8,
-        (number / 16 % 16) as u8,
-        (number % 16) as u8,
-    ]
+    [number / 4096, number / 256, number / 16, number].map(|front| (front % 16) as u8)
 }
 
 // The number with this digit at the position, and 0 at each later one.
@@ -20,6 +15,7 @@ pub(crate) fn raise(number: u16, position: usize, digit: u8) -> u16
     ensures { result ≡ raised number position digit }
 {
     let digit = u16::from(digit);
+    // With the position's power of 16 in their place, 16 times the first one would need more than 16 bits.
     match position {
         0 => digit * 4096,
         1 => number / 4096 * 4096 + digit * 256,

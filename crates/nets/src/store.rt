@@ -5,6 +5,8 @@ ghost use Rattle.std.specs.Prelude.{◌≡◌, length};
 use crate::side::Side;
 use bounds::{Bound, Range};
 
+// An arc is named by its transition, its side and its number. Callers have the three apart and hand them on at once, so a struct of
+// them would be made at every call and be no plainer.
 pub trait NetStore<B: Bound> {
     ghost net: { Self → Net B };
 

@@ -1,3 +1,2 @@
-pub mod Steps
-pub mod Held
 mod Backwards
+pub mod Steps

@@ -1,6 +1,7 @@
 // A draft: 169 lent cells that hold the bounds of a zone while it is worked on, (j,i) at 13 j + i.
-// A place outside the cells reads as no limit, and a write to it is dropped.
-ghost use Rattle.std.specs.Prelude.{◌≡◌, ◌+◌, ◌*◌, slice_index};
+// A place outside the cells reads as no limit, and a write to it is dropped. The calls take the cells and the number of points
+// apart, since it is the caller who lends the cells, anew for each call.
+ghost use Rattle.std.specs.Prelude.{◌≡◌, ◌+◌, ◌*◌, slice_index_or};
 ghost use Rattle.cells.specs.Cells.{in_draft, put, lowered, relaxed_row, relaxed_cells, narrowed_cells, moved_row, picked_cells, linked, added_cells, column_least, delayed_cells};
 ghost use Rattle.walks.specs.Walks.{lesser as least_of};
 
@@ -13,20 +14,26 @@ fn index(j: u8, i: u8) -> usize
     13 * usize::from(j) + usize::from(i)
 }
 
+// A cell of a zone, or no limit outside it. By a match, which was measured faster than `copied` with `unwrap_or`.
+pub fn cell<B: Bound>(cells: &[B], at: usize) -> B
+    ensures { result ≡ slice_index_or cells.now at B.Bound.kind.no_limit }
+{
+    match cells.get(at) {
+        Some(bound) => *bound,
+        None => B::no_limit(),
+    }
+}
+
 pub fn bound_at<B: Bound>(cells: &[B], j: u8, i: u8) -> B
     ensures { result ≡ in_draft B.Bound.kind cells.now j i }
 {
-    let at = index(j, i);
-    if at < cells.len() {
-        cells[at]
-    } else {
-        B::no_limit()
-    }
+    cell(cells, index(j, i))
 }
 
 pub fn put<B: Bound>(cells: &mut [B], j: u8, i: u8, bound: B)
     ensures { cells.new ≡ put j i bound cells.old }
 {
+    // After a write through `get_mut` of a slice a proof knows no cell, so this tests the place itself.
     let at = index(j, i);
     if at < cells.len() {
         cells[at] = bound;
@@ -55,6 +62,7 @@ pub fn narrow<B: Bound>(cells: &mut [B], token: u8, range: Range<B>)
     lower(cells, 0, token, range.lower);
 }
 
+// This and the rounds below read the cells that they write, so a closure over pairs of points would be no plainer than the loops.
 fn relax_row<B: Bound>(cells: &mut [B], points: u8, pivot: u8, row: u8)
     ensures { cells.new ≡ relaxed_row B.Bound.kind points pivot row cells.old }
 {
@@ -81,27 +89,12 @@ pub fn take_off<B: Bound>(cells: &mut [B], kept: &[u8], points: u8)
     ensures { cells.new ≡ picked_cells B.Bound.kind kept.now points cells.old }
 {
     for row in 0..points {
-        move_row(cells, kept, points, row);
+        let from = byte(kept, usize::from(row));
+        for i in 0..points {
+            let bound = bound_at(cells, from, byte(kept, usize::from(i)));
+            put(cells, row, i, bound);
+        }
     }
-}
-
-fn move_row<B: Bound>(cells: &mut [B], kept: &[u8], points: u8, row: u8)
-    ensures { cells.new ≡ moved_row B.Bound.kind kept.now points row cells.old }
-{
-    for i in 0..points {
-        move_bound(cells, kept, row, i);
-    }
-}
-
-fn move_bound<B: Bound>(cells: &mut [B], kept: &[u8], row: u8, i: u8)
-    ensures { cells.new ≡ put row i (in_draft B.Bound.kind cells.old (slice_index kept.now row) (slice_index kept.now i)) cells.old }
-{
-    let bound = bound_at(
-        cells,
-        byte(kept, usize::from(row)),
-        byte(kept, usize::from(i)),
-    );
-    put(cells, row, i, bound);
 }
 
 // Adds a token with a range as point n: its way to every other point leads through the clock.
@@ -109,28 +102,18 @@ pub fn add_token<B: Bound>(cells: &mut [B], n: u8, range: Range<B>)
     ensures { cells.new ≡ added_cells B.Bound.kind range n cells.old }
 {
     for i in 0..n {
-        link(cells, n, i, range);
+        let to = range.upper.sum(bound_at(cells, 0, i));
+        let from = bound_at(cells, i, 0).sum(range.lower);
+        put(cells, n, i, to);
+        put(cells, i, n, from);
     }
     put(cells, n, n, B::zero());
-}
-
-fn link<B: Bound>(cells: &mut [B], n: u8, i: u8, range: Range<B>)
-    ensures { cells.new ≡ linked B.Bound.kind range n i cells.old }
-{
-    let to = range.upper.sum(bound_at(cells, 0, i));
-    let from = bound_at(cells, i, 0).sum(range.lower);
-    put(cells, n, i, to);
-    put(cells, i, n, from);
 }
 
 fn column_least<B: Bound>(cells: &[B], points: u8, i: u8) -> B
     ensures { result ≡ column_least B.Bound.kind points i cells.now }
 {
-    let mut least = B::zero();
-    for j in 1..points {
-        least = lesser(bound_at(cells, j, i), least);
-    }
-    least
+    (1..points).fold(B::zero(), |least, j| lesser(bound_at(cells, j, i), least))
 }
 
 // The delay predecessor of a normal form: in the clock's row the least of zero and the column.
@@ -138,13 +121,7 @@ pub fn delay_back<B: Bound>(cells: &mut [B], points: u8)
     ensures { cells.new ≡ delayed_cells B.Bound.kind points cells.old }
 {
     for i in 1..points {
-        delay_point(cells, points, i);
+        let least = column_least(cells, points, i);
+        put(cells, 0, i, least);
     }
-}
-
-fn delay_point<B: Bound>(cells: &mut [B], points: u8, i: u8)
-    ensures { cells.new ≡ put 0 i (column_least B.Bound.kind points i cells.old) cells.old }
-{
-    let least = column_least(cells, points, i);
-    put(cells, 0, i, least);
 }

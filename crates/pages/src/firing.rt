@@ -1,125 +1,98 @@
 // The firing predecessor: narrow every matched token, settle, take the matched tokens off, add the input arcs' tokens.
-ghost use Rattle.std.specs.Prelude.{◌≡◌, ℕ, ◌+◌, ◌<◌, ◌≤◌, List, ◌++◌, map, length, if◌then◌else◌, nat_eq, slice_index};
+ghost use Rattle.std.specs.Prelude.{◌≡◌, ◌+◌, ◌-◌, ◌<◌, ◌≤◌, ◌++◌, map, length, is_ok, if◌then◌else◌, nat_eq, slice_index};
+ghost use Rattle.arrayvec.specs.ArrayVec.{array_vec_len};
 ghost use Rattle.cells.specs.Cells.{matched_cells, input_cells, narrowed_cells};
 ghost use Rattle.nets.specs.Nets.{arc_of, arcs_of, transition_of};
 ghost use Rattle.nets.specs.declared.side.Side.TheVariants.{Input, Output};
 ghost use Rattle.pages.specs.Backwards.{FiredBack, Narrowed, Replaced};
-ghost use Rattle.pages.specs.Tokens.{Held};
 ghost use Rattle.zones.specs.Predecessors.{digits_of};
 
 use crate::bytes::byte;
 use crate::draft::{add_token, narrow, take_off};
-use crate::settle::settle;
+use crate::settle::{Inconsistent, settle};
 use crate::tokens::{MOST_TOKENS, Tokens, sift, some_tokens};
 use bounds::Bound;
-use matchings::{digits, output_count};
+use matchings::{arc_count, digits};
 use nets::{NetStore, Side};
 
-fn narrow_matched<B: Bound, N: NetStore<B>>(
-    cells: &mut [B],
-    store: &N,
+// A transition of a net, and for each of its output arcs the token that is matched with it, or 0.
+#[derive(Drop)]
+struct Firing<'a, N> {
+    store: &'a N,
     transition: u8,
-    matching: &[u8],
-)
-    ensures { cells.new ≡ matched_cells B.Bound.kind (arcs_of (N.NetStore.net store.now) transition Output) matching.now cells.old }
-{
-    for a in 0..store.arcs(transition, Side::Output) {
-        narrow_by_arc(cells, store, transition, matching, a);
+    matching: &'a [u8],
+}
+
+impl<'a, N> Firing<'a, N> {
+    fn narrow_matched<B: Bound>(&self, cells: &mut [B])
+    where
+        N: NetStore<B>,
+        ensures { cells.new ≡ matched_cells B.Bound.kind (arcs_of (N.NetStore.net self.now.store.now) self.now.transition Output) self.now.matching.now cells.old }
+    {
+        for arc in 1..=arc_count(self.store, self.transition, Side::Output) {
+            self.narrow_by(arc, cells);
+        }
+    }
+
+    // An output arc narrows the token that it is matched with.
+    fn narrow_by<B: Bound>(&self, arc: u8, cells: &mut [B])
+    where
+        N: NetStore<B>,
+        requires { 0 < arc }
+        ensures { cells.new ≡ (if nat_eq (slice_index self.now.matching.now (arc - 1)) 0 then cells.old else narrowed_cells B.Bound.kind (slice_index self.now.matching.now (arc - 1)) (arc_of B.Bound.kind (N.NetStore.net self.now.store.now) self.now.transition Output arc).range cells.old) }
+    {
+        let token = byte(self.matching, usize::from(arc) - 1);
+        if token != 0 {
+            let range = self.store.range(self.transition, Side::Output, arc);
+            narrow(cells, token, range);
+        }
+    }
+
+    // Narrows every matched token and settles the draft.
+    fn narrow_all<B: Bound>(&self, cells: &mut [B], tokens: u8) -> Result<(), Inconsistent>
+    where
+        N: NetStore<B>,
+        requires { tokens ≤ 8 }
+        ensures { Narrowed B.Bound.kind (transition_of (N.NetStore.net self.now.store.now) self.now.transition) self.now.matching.now tokens cells.old cells.new (is_ok result) }
+    {
+        self.store.keeps_limits();
+        self.narrow_matched(cells);
+        settle(cells, tokens + 1, &sift(tokens, self.matching, true))
+    }
+
+    // Adds the tokens of the input arcs behind those that there are.
+    fn add_inputs<B: Bound>(&self, cells: &mut [B], tokens: &mut Tokens)
+    where
+        N: NetStore<B>,
+        requires { array_vec_len tokens.old ≤ 8 }
+        ensures cells { cells.new ≡ input_cells B.Bound.kind (arcs_of (N.NetStore.net self.now.store.now) self.now.transition Input) (array_vec_len tokens.old + 1) cells.old }
+        ensures tokens { tokens.new.items ≡ tokens.old.items ++ map (λ a. a.place) (arcs_of (N.NetStore.net self.now.store.now) self.now.transition Input) }
+    {
+        for arc in 1..=arc_count(self.store, self.transition, Side::Input) {
+            tokens.push(self.store.place(self.transition, Side::Input, arc));
+            let range = self.store.range(self.transition, Side::Input, arc);
+            add_token(cells, tokens.len() as u8, range);
+        }
+    }
+
+    // Takes the matched tokens off, and adds those of the input arcs.
+    fn replace<B: Bound>(&self, cells: &mut [B], places: &[u8]) -> Tokens
+    where
+        N: NetStore<B>,
+        requires { length places.now ≤ 8 }
+        ensures { Replaced B.Bound.kind (transition_of (N.NetStore.net self.now.store.now) self.now.transition) self.now.matching.now places.now cells.old cells.new result.items }
+    {
+        self.store.keeps_limits();
+        let kept = sift(places.len() as u8, self.matching, false);
+        take_off(cells, &kept, kept.len() as u8);
+        let mut tokens = some_tokens(places, &kept[1..]);
+        self.add_inputs(cells, &mut tokens);
+        tokens
     }
 }
 
-// Arc a + 1 narrows the token that it is matched with.
-fn narrow_by_arc<B: Bound, N: NetStore<B>>(
-    cells: &mut [B],
-    store: &N,
-    transition: u8,
-    matching: &[u8],
-    a: u8,
-)
-    requires { a < 255 }
-    ensures { cells.new ≡ (if nat_eq (slice_index matching.now a) 0 then cells.old else narrowed_cells B.Bound.kind (slice_index matching.now a) (arc_of B.Bound.kind (N.NetStore.net store.now) transition Output (a + 1)).range cells.old) }
-{
-    let token = byte(matching, usize::from(a));
-    if token != 0 {
-        narrow(cells, token, store.range(transition, Side::Output, a + 1));
-    }
-}
-
-// Tokens of the input arcs, from point n on.
-fn add_inputs<B: Bound, N: NetStore<B>>(cells: &mut [B], store: &N, transition: u8, n: u8)
-    requires { n ≤ 13 }
-    ensures { cells.new ≡ input_cells B.Bound.kind (arcs_of (N.NetStore.net store.now) transition Input) n cells.old }
-{
-    for a in 0..input_count(store, transition) {
-        add_token(cells, n + a, store.range(transition, Side::Input, a + 1));
-    }
-}
-
-fn input_count<B: Bound, N: NetStore<B>>(store: &N, transition: u8) -> u8
-    ensures is { result ≡ length (arcs_of (N.NetStore.net store.now) transition Input) }
-    ensures few { result ≤ 4 }
-{
-    store.keeps_limits();
-    store.arcs(transition, Side::Input)
-}
-
-// The place of arc a + 1.
-fn input_place<B: Bound, N: NetStore<B>>(store: &N, transition: u8, a: u8) -> u8
-    requires { a < 255 }
-    ensures { result ≡ (arc_of B.Bound.kind (N.NetStore.net store.now) transition Input (a + 1)).place }
-{
-    store.place(transition, Side::Input, a + 1)
-}
-
-// The tokens of the input arcs stand behind those given.
-fn with_inputs<B: Bound, N: NetStore<B>>(first: Tokens, store: &N, transition: u8) -> Tokens
-    requires { first.count ≤ 8 }
-    ensures { (places : List ℕ) → Held places first → Held (places ++ map (λ a. a.place) (arcs_of (N.NetStore.net store.now) transition Input)) result }
-{
-    let mut tokens = first;
-    for a in 0..input_count(store, transition) {
-        tokens = tokens.with(input_place(store, transition, a));
-    }
-    tokens
-}
-
-// Narrows every matched token and settles the draft; false where some walk is negative.
-fn narrow_all<B: Bound, N: NetStore<B>>(
-    cells: &mut [B],
-    tokens: u8,
-    store: &N,
-    transition: u8,
-    matching: &[u8],
-) -> bool
-    requires { tokens ≤ 8 }
-    ensures { Narrowed B.Bound.kind (transition_of (N.NetStore.net store.now) transition) matching.now tokens cells.old cells.new result }
-{
-    store.keeps_limits();
-    narrow_matched(cells, store, transition, matching);
-    let matched = sift(tokens, matching, true);
-    settle(cells, tokens + 1, &matched.at[..usize::from(matched.count)])
-}
-
-// Takes the matched tokens off, and adds those of the input arcs.
-fn replace<B: Bound, N: NetStore<B>>(
-    cells: &mut [B],
-    places: &[u8],
-    store: &N,
-    transition: u8,
-    matching: &[u8],
-) -> Tokens
-    requires { length places.now ≤ 8 }
-    ensures { Replaced B.Bound.kind (transition_of (N.NetStore.net store.now) transition) matching.now places.now cells.old cells.new result }
-{
-    store.keeps_limits();
-    let kept = sift(places.len() as u8, matching, false);
-    take_off(cells, &kept.at, kept.count);
-    add_inputs(cells, store, transition, kept.count);
-    let first = some_tokens(places, &kept.at[1..usize::from(kept.count)]);
-    with_inputs(first, store, transition)
-}
-
-// Turns a zone of a page into its firing predecessor, and answers the predecessor's tokens, or none where it is void.
+// Turns a zone of a page into its firing predecessor, and answers the predecessor's tokens; none where it is void, or where the
+// zone has more than eight tokens.
 pub fn firing_predecessor<B: Bound, N: NetStore<B>>(
     cells: &mut [B],
     places: &[u8],
@@ -132,10 +105,12 @@ pub fn firing_predecessor<B: Bound, N: NetStore<B>>(
     if places.len() > MOST_TOKENS {
         return None;
     }
-    let digits = digits(matching);
-    let matching = &digits[..output_count(store, transition)];
-    if !narrow_all(cells, places.len() as u8, store, transition, matching) {
-        return None;
-    }
-    Some(replace(cells, places, store, transition, matching))
+    let arcs = usize::from(arc_count(store, transition, Side::Output));
+    let firing = Firing {
+        store,
+        transition,
+        matching: &digits(matching)[..arcs],
+    };
+    firing.narrow_all(cells, places.len() as u8).ok()?;
+    Some(firing.replace(cells, places))
 }

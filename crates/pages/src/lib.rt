@@ -1,9 +1,10 @@
-// Zones in lent cells: a draft to work on, and the book's pages.
+// Zones in lent cells: a draft to work on, and the predecessors made in it.
 #![tactic(auto)]
 
 pub mod bytes;
 pub mod delay;
 pub mod draft;
+pub mod fill;
 pub mod firing;
 pub mod settle;
 pub mod tokens;

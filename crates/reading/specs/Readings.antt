@@ -6,28 +6,27 @@ use Rattle.std.specs.Prelude.{◌≡◌, ℕ, List, length, Some, None, Ok, Err,
 use Rattle.bounds.specs.Kinds.{Kind}
 use Rattle.zones.specs.Zones.{Zone, Inconsistent}
 use Rattle.cells.specs.Loading.{Formed}
-use Rattle.pages.specs.Tokens.{Held}
-use Rattle.pages.specs.declared.tokens.Tokens.{Tokens}
 use Rattle.entries.specs.ZoneRecords.{zone_fault, zone_of}
+use Rattle.arrayvec.specs.ArrayVec.{ArrayVec}
 use Rattle.entries.specs.declared.fault.EntryRefusal.{EntryRefusal}
 use Rattle.entries.specs.declared.fault.EntryRefusal.TheVariants.{Inconsistent as RefusedInconsistent}
 
 -- refused for the bytes alone: the cells stay as they were
-pub record Refused {B : Type 0} (refusal : EntryRefusal) (before after : List B) (result : Result Tokens EntryRefusal) : Type 0 where
+pub record Refused {B : Type 0} (refusal : EntryRefusal) (before after : List B) (result : Result (ArrayVec ℕ) EntryRefusal) : Type 0 where
   pub answer : result ≡ Err refusal
   pub cells : after ≡ before
 
 -- without a fault the answer is the zone's places, or that the zone is inconsistent
-abbrev pub Taken : {B : Type 0} → Zone B → Result Tokens EntryRefusal → Type 0
-Taken z (Ok tokens) = Held z.places tokens
+abbrev pub Taken : {B : Type 0} → Zone B → Result (ArrayVec ℕ) EntryRefusal → Type 0
+Taken z (Ok tokens) = tokens.items ≡ z.places
 Taken z (Err refusal) = refusal ≡ RefusedInconsistent
 
 -- the places come with the zone's normal form
-abbrev pub Settled : {B : Type 0} → Kind B → Zone B → List B → Result Tokens EntryRefusal → Type 0
+abbrev pub Settled : {B : Type 0} → Kind B → Zone B → List B → Result (ArrayVec ℕ) EntryRefusal → Type 0
 Settled kind z after (Ok tokens) = Formed kind z after
 Settled kind z after (Err refusal) = Inconsistent kind z
 
-pub record Read {B : Type 0} (kind : Kind B) (net_places : ℕ) (bytes : List ℕ) (before after : List B) (result : Result Tokens EntryRefusal) : Type 0 where
+pub record Read {B : Type 0} (kind : Kind B) (net_places : ℕ) (bytes : List ℕ) (before after : List B) (result : Result (ArrayVec ℕ) EntryRefusal) : Type 0 where
   pub refused : (refusal : EntryRefusal) → zone_fault kind.marks net_places bytes ≡ Some refusal → Refused refusal before after result
   pub taken : zone_fault kind.marks net_places bytes ≡ None → Taken (zone_of kind bytes) result
   pub settled : zone_fault kind.marks net_places bytes ≡ None → length before ≡ 169 → Settled kind (zone_of kind bytes) after result

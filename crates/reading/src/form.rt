@@ -1,44 +1,70 @@
 // A record's zone brought to normal form in a draft, and its tokens.
-ghost use Rattle.std.specs.Prelude.{◌≡◌, ◌+◌, ◌≤◌, map, length, take};
+ghost use Rattle.std.specs.Prelude.{◌≡◌, ◌+◌, ◌≤◌, is_ok, map, length, take};
 ghost use Rattle.cells.specs.Loading.{FormedOr, nine_points};
 ghost use Rattle.cells.specs.Settling.{Settles};
-ghost use Rattle.entries.specs.ZoneRecords.{tokens_of, place_at, zone_of};
-ghost use Rattle.pages.specs.Tokens.{Held};
+ghost use Rattle.entries.specs.ZoneRecords.{bound_at, tokens_of, place_at, zone_of};
 ghost use Rattle.std.specs.List.{range_with_len};
+ghost use Rattle.walks.specs.Walks.{counted};
 
-use crate::fill::fill;
 use bounds::Bound;
-use entries::zone::{zone_place, zone_tokens};
-use pages::settle::settle;
+use entries::zone::ZoneRecord;
+use pages::draft::lesser;
+use pages::fill::fill;
+use pages::settle::{Inconsistent, settle};
 use pages::tokens::Tokens;
 
+// The clock and eight tokens; settling is lent those that a record has.
+const POINTS: [u8; 9] = [0, 1, 2, 3, 4, 5, 6, 7, 8];
+
+// A record that passed its tests.
+#[derive(Clone, Copy)]
+pub(crate) struct TestedRecord<'a> {
+    pub(crate) record: ZoneRecord<'a>,
+    ghost few: { tokens_of record.bytes.now ≤ 8 },
+}
+
 // Nothing is known of a record's bounds, so every point is a pivot.
-fn settle_all<B: Bound>(cells: &mut [B], tokens: u8) -> bool
+fn settle_all<B: Bound>(cells: &mut [B], tokens: u8) -> Result<(), Inconsistent>
     requires { tokens ≤ 8 }
-    ensures { Settles B.Bound.kind (tokens + 1) (take (tokens + 1) nine_points) cells.old cells.new result }
+    ensures { Settles B.Bound.kind (tokens + 1) (take (tokens + 1) nine_points) cells.old cells.new (is_ok result) }
 {
-    let all = [0, 1, 2, 3, 4, 5, 6, 7, 8];
-    settle(cells, tokens + 1, &all[..=usize::from(tokens)])
+    settle(cells, tokens + 1, &POINTS[..=usize::from(tokens)])
 }
 
-// Answers whether the zone is consistent.
-pub(crate) fn form<B: Bound>(cells: &mut [B], bytes: &[u8]) -> bool
-    requires { tokens_of bytes.now ≤ 8 }
-    ensures kept { length cells.new ≡ length cells.old }
-    ensures formed { length cells.old ≡ 169 → FormedOr B.Bound.kind (zone_of B.Bound.kind bytes.now) cells.new result }
-{
-    let tokens = zone_tokens(bytes);
-    fill(cells, bytes, tokens + 1);
-    settle_all(cells, tokens)
-}
-
-pub(crate) fn zone_places(bytes: &[u8]) -> Tokens
-    requires { tokens_of bytes.now ≤ 8 }
-    ensures { Held (map (place_at bytes.now) (range_with_len 1 (tokens_of bytes.now))) result }
-{
-    let mut tokens = Tokens::none();
-    for t in 0..zone_tokens(bytes) {
-        tokens = tokens.with(zone_place(bytes, t + 1));
+impl<'a> TestedRecord<'a> {
+    // A bound as it counts: no age is below zero, so a bound of the clock's row above zero counts as zero.
+    fn counted_bound<B: Bound>(&self, j: u8, i: u8) -> B
+        ensures { result ≡ counted B.Bound.kind (bound_at B.Bound.kind self.now.record.bytes.now) j i }
+    {
+        if j == i {
+            return B::zero();
+        }
+        let bound = self.record.bound(j, i);
+        if j == 0 {
+            lesser(bound, B::zero())
+        } else {
+            bound
+        }
     }
-    tokens
+
+    pub(crate) fn form<B: Bound>(&self, cells: &mut [B]) -> Result<(), Inconsistent>
+        ensures kept { length cells.new ≡ length cells.old }
+        ensures formed { length cells.old ≡ 169 → FormedOr B.Bound.kind (zone_of B.Bound.kind self.now.record.bytes.now) cells.new (is_ok result) }
+    {
+        let tokens = self.record.tokens();
+        fill(cells, tokens + 1, |j, i| self.counted_bound(j, i));
+        settle_all(cells, tokens)
+    }
+
+    // Pushed one by one: `collect` wants an allocator, which fixed memory has not.
+    #[tactic(auto, using(crate::proofs::Places::place_listed))]
+    pub(crate) fn places(&self) -> Tokens
+        ensures { result.items ≡ map (place_at self.now.record.bytes.now) (range_with_len 1 (tokens_of self.now.record.bytes.now)) }
+    {
+        let mut places = Tokens::new();
+        for token in 1..=self.record.tokens() {
+            places.push(self.record.place(token));
+        }
+        places
+    }
 }

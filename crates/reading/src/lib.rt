@@ -1,7 +1,6 @@
 // Zone records read into a draft, in normal form.
 #![tactic(auto)]
 
-mod fill;
 mod form;
 mod read;
 

@@ -2,10 +2,10 @@
 ghost use Rattle.reading.specs.Readings.{Read};
 ghost use Rattle.std.specs.Prelude.{◌≡◌, length};
 
-use crate::form::{form, zone_places};
+use crate::form::TestedRecord;
 use bounds::Bound;
 use entries::fault::EntryRefusal;
-use entries::refusal::zone_refusal;
+use entries::zone::ZoneRecord;
 use pages::tokens::Tokens;
 
 // Reads a record under a net of so many places into 169 cells, in normal form. A record that is refused by its bytes alone leaves
@@ -18,11 +18,9 @@ pub fn read_zone<B: Bound>(
     ensures kept { length cells.new ≡ length cells.old }
     ensures answer { Read B.Bound.kind places bytes.now cells.old cells.new result }
 {
-    if let Some(refusal) = zone_refusal::<B>(bytes, places) {
-        return Err(refusal);
-    }
-    if !form(cells, bytes) {
-        return Err(EntryRefusal::Inconsistent);
-    }
-    Ok(zone_places(bytes))
+    let record = ZoneRecord::new(bytes);
+    record.check::<B>(places)?;
+    let zone = TestedRecord { record };
+    zone.form(cells).map_err(|_| EntryRefusal::Inconsistent)?;
+    Ok(zone.places())
 }

@@ -1,20 +1,21 @@
 -- The net that sound bytes say keeps the limits of every net. Assumes nothing.
-use Rattle.std.proofs.Common.{◌≡◌, ℕ, zero, suc, ◌+◌, ◌*◌, ◌%◌, ◌^◌, ◌<◌, ◌≤◌, Bool, true, false, cond, not, ◌&&◌, ◌||◌, ltb, leb, List, [], ◌∷◌, map, length, take, drop, ℤ, pos, ◌+ℤ◌, neg_ℤ, nat_abs, None, sym, refl, ap, ◌∙◌, inl, inr, pow-suc, arith, length-take}
-use borrow.Author.Differences.{ints}
-use lib.Signed.{le_z}
+use Rattle.std.proofs.Common.{◌≡◌, ℕ, zero, suc, ◌+◌, ◌*◌, ◌%◌, ◌^◌, ◌<◌, ◌≤◌, Bool, true, false, cond, not, ◌&&◌, ◌||◌, ltb, leb, List, [], ◌∷◌, map, length, take, drop, pos, neg_ℤ, nat_abs, Some, None, Option, sym, refl, ap, ◌∙◌, pow-suc, arith, length-take}
 use Rattle.std.proofs.lemmas.List.{length-map}
-use Rattle.std.proofs.lemmas.Bool.{false≢true, not-false, leb-false, le-leb, le-ltb, lt-ltb, and_parts, or_parts, cond-true, cond-false}
-use Rattle.bounds.specs.Kinds.{Kind, Named, largest_size, place}
+use Rattle.std.proofs.lemmas.Bool.{not-false, leb-false, le-leb, le-ltb, lt-ltb, or_parts, cond-true, cond-false}
+use Rattle.bounds.specs.Kinds.{Kind, largest_size}
 use Rattle.bounds.specs.Limits.{limit_at_most, limit_sum}
 use Rattle.bounds.specs.Limits.Limit.{number, unlimited}
-use Rattle.nets.specs.Nets.{largest_end, Ended, RangeLimits, Every, ArcLimits, TransitionLimits, Limits}
-use Rattle.records.specs.Bits.{field}
-use Rattle.records.specs.NetBytes.{slot_arc, record_transition, transitions_of, net_of}
-use Rattle.records.specs.NetRecords.{first_of, in_order, header_of, transition_record, is_used, slot_has, some_slot_has, record_has, transition_refusal, transition_fault, transitions_fault, sound}
-use Rattle.records.specs.Slots.{slot_of, slots_of, used_has, unused_has}
+use Rattle.nets.specs.Nets.{largest_end, RangeLimits, Every, ArcLimits, TransitionLimits, Limits}
+use Rattle.std.specs.List.{find}
+use Rattle.nets.proofs.Ranges.{difference, small_difference, open_range, closed_range}
+use Rattle.records.specs.Bits.{field, flag}
+use Rattle.records.specs.NetBytes.{upper_bound, slot_arc, record_transition, transitions_of, net_of}
+use Rattle.records.specs.NetRecords.{in_order, header_of, transition_record, is_used, slot_has, some_slot_has, record_has, transition_refusal, transition_fault, transitions_fault, sound}
+use Rattle.records.specs.Slots.{end_at, slot_of, slots_of, end_limit, used_has, unused_has}
 use Rattle.records.proofs.Clean.{or_none, sized_none, at_none, all_clear, parts, few_transitions, refusal_counts}
 use Rattle.records.specs.declared.fault.NetRefusal.TheVariants.{NoSuchPlace, EmptyRange}
 use Rattle.records.specs.declared.header.NetHeader.{NetHeader}
+use Rattle.records.specs.declared.slot.End.{End}
 use Rattle.records.specs.declared.slot.Slot.{Slot}
 use Rattle.records.specs.declared.transition.TransitionRecord.{TransitionRecord}
 
@@ -29,92 +30,47 @@ field_below xs from (suc w) = one_more (field xs from w) _ (2 ^ w) (2 ^ suc w) (
 end_small : (n : ℕ) → n < 32768 → n ≤ largest_end
 end_small n h = omega arith
 
+abbrev SmallEnd : Option End → Type 0
+SmallEnd None = Unit
+SmallEnd (Some e) = e.number ≤ largest_end
+
 -- both end numbers are small
 abbrev Small : Slot → Type 0
-Small s = (s.lower.number ≤ largest_end) × (s.upper.number ≤ largest_end)
+Small s = (s.lower.number ≤ largest_end) × SmallEnd s.upper
+
+upper_small : (open_ended : Bool) (e : End) → e.number ≤ largest_end → SmallEnd (cond open_ended None (Some e))
+upper_small true e h = tt
+upper_small false e h = h
 
 slot_small : (bytes : List ℕ) → Small (slot_of bytes)
-slot_small bytes = (end_small (field bytes 7 15) (field_below bytes 7 15), end_small (field bytes 24 15) (field_below bytes 24 15))
+slot_small bytes =
+    (end_small (field bytes 7 15) (field_below bytes 7 15), upper_small (flag bytes 22) (end_at bytes 23) (end_small (field bytes 24 15) (field_below bytes 24 15)))
 
 slots_small : (n : ℕ) (bytes : List ℕ) → Every Small (slots_of n bytes)
 slots_small zero bytes = tt
 slots_small (suc n) bytes = (slot_small (take 5 bytes), slots_small n (drop 5 bytes))
 
--- ---- ranges
--- fewer marks only raise a sum
-raised : (d : ℤ) (s t m : Bool) → le_z (place (pos 0) false) (place d (s || t)) ≡ true → le_z (place (pos 0) false) (place d ((s && m) || (t && m))) ≡ true
-raised d true true true h = h
-raised d true true false h = sym (omega (arith, ints))
-raised d true false true h = h
-raised d true false false h = sym (omega (arith, ints))
-raised d false true true h = h
-raised d false true false h = sym (omega (arith, ints))
-raised d false false m h = h
-
-either_mark : (s t m : Bool) → ((s && m) || (t && m)) ≡ true → m ≡ true
-either_mark s t true e = refl
-either_mark true true false e = e
-either_mark true false false e = e
-either_mark false true false e = e
-either_mark false false false e = e
-
 below : (i m k : ℕ) → i + suc m ≡ k → i < k
 below i m k e = omega arith
 
 module _ {B : Type 0} (kind : Kind B) where
-  takes : (s : Bool) → (s && kind.marks) ≡ true → kind.marks ≡ true
-  takes s e = (and_parts s kind.marks e).1
-
-  named : (c : ℤ) (s : Bool) → nat_abs c ≤ largest_size → Named kind.marks c (s && kind.marks)
-  named c s small = record { small = small; takes = takes s }
-
-  module _ (l u : ℕ) (s t : Bool) (low_small : l ≤ largest_end) (high_small : u ≤ largest_end) where
-    low_end : Ended kind (λ n. neg_ℤ (pos n)) (kind.number (neg_ℤ (pos l)) (s && kind.marks))
-    low_end = record { end = l; strict = s && kind.marks; small = low_small; takes = takes s; is = refl }
-
-    high_end : Ended kind pos (kind.number (pos u) (t && kind.marks))
-    high_end = record { end = u; strict = t && kind.marks; small = high_small; takes = takes t; is = refl }
-
-    abbrev difference : ℤ
-    difference = pos u +ℤ neg_ℤ (pos l)
-
-    within : nat_abs difference ≤ largest_size
-    within = omega (arith, ints)
-
-    sum_from_zero : le_z (place (pos 0) false) (place difference (t || s)) ≡ true → kind.at_most kind.zero (kind.sum (kind.number (pos u) (t && kind.marks)) (kind.number (neg_ℤ (pos l)) (s && kind.marks))) ≡ true
-    sum_from_zero h =
-        let m = kind.marks in
-        let mark = (t && m) || (s && m) in
-        let sum = kind.numbers_sum (pos u) (neg_ℤ (pos l)) (t && m) (s && m) (named (pos u) t (omega (arith, ints))) (named (neg_ℤ (pos l)) s (omega (arith, ints))) in
-        let kept = cond-true (leb (nat_abs difference) largest_size) (kind.number difference mark) kind.no_limit (le-leb (nat_abs difference) largest_size within) in
-        let from : Named m (pos 0) false = record { small = omega (arith, ints); takes = λ e. absurd (false≢true e) } in
-        let order = kind.numbers_order (pos 0) difference false mark from (record { small = within; takes = either_mark t s m }) in
-        ap (kind.at_most kind.zero) (sum ∙ kept)
-        ∙ ap (λ z. kind.at_most z (kind.number difference mark)) (sym kind.number_zero)
-        ∙ order
-        ∙ raised difference t s m h
-
-    -- by whether the range has an upper limit
-    range_limits : (open_ended : Bool)
-        → not (limit_at_most (number (pos 0) false) (limit_sum (cond open_ended unlimited (number (pos u) t)) (number (neg_ℤ (pos l)) s))) ≡ false
-        → RangeLimits kind (record { upper = cond open_ended kind.no_limit (kind.number (pos u) (t && kind.marks)); lower = kind.number (neg_ℤ (pos l)) (s && kind.marks) })
-    range_limits true e =
-        record {
-          lower = low_end;
-          upper = inl refl;
-          sum = ap (kind.at_most kind.zero) (kind.absorbs (kind.number (neg_ℤ (pos l)) (s && kind.marks))) ∙ kind.top kind.zero;
-        }
-    range_limits false e =
-        let kept = cond-true (leb (nat_abs difference) largest_size) (number difference (t || s)) unlimited (le-leb (nat_abs difference) largest_size within) in
-        let order = ap (limit_at_most (number (pos 0) false)) (sym kept) ∙ not-false _ e in
-        record { lower = low_end; upper = inr high_end; sum = sum_from_zero order }
+  -- by whether the range has an upper limit
+  range_limits : (lower : End) (upper : Option End) → lower.number ≤ largest_end → SmallEnd upper
+      → not (limit_at_most (number (pos 0) false) (limit_sum (end_limit upper) (number (neg_ℤ (pos lower.number)) lower.strict))) ≡ false
+      → RangeLimits kind (record { upper = upper_bound kind upper; lower = kind.number (neg_ℤ (pos lower.number)) (lower.strict && kind.marks) })
+  range_limits lower None low_small high_small e = open_range kind lower.number lower.strict low_small
+  range_limits lower (Some upper) low_small high_small e =
+      let d = difference lower.number upper.number in
+      let within = small_difference lower.number upper.number low_small high_small in
+      let kept = cond-true (leb (nat_abs d) largest_size) (number d (upper.strict || lower.strict)) unlimited (le-leb (nat_abs d) largest_size within) in
+      closed_range kind lower.number lower.strict low_small upper.number upper.strict high_small (ap (limit_at_most (number (pos 0) false)) (sym kept) ∙ not-false _ e)
 
   -- ---- slots
   slot_limits : (h : NetHeader) (s : Slot) → Small s → used_has NoSuchPlace h s ≡ false → used_has EmptyRange h s ≡ false → ArcLimits kind h.places (slot_arc kind s)
   slot_limits h s small there some =
       record {
         place = leb-false h.places s.place there;
-        range = range_limits s.lower.number s.upper.number s.lower.strict s.upper.strict small.0 small.1 s.unlimited some;
+        range = range_limits s.lower s.upper small.0 small.1 some;
       }
 
   module _ (h : NetHeader) (r : TransitionRecord) where
@@ -163,7 +119,7 @@ module _ {B : Type 0} (kind : Kind B) where
     few : (m : ℕ) (ss : List Slot) → m ≤ 4 → length (map (slot_arc kind) (take m ss)) ≤ 4
     few m ss le = omega (arith, length-map (take m ss) (slot_arc kind), length-take m ss)
 
-    record_limits : first_of (record_has h r) in_order ≡ None → Every Small r.slots → r.inputs ≤ 4 → r.outputs ≤ 4 → TransitionLimits kind h.places (record_transition kind r)
+    record_limits : find (record_has h r) in_order ≡ None → Every Small r.slots → r.inputs ≤ 4 → r.outputs ≤ 4 → TransitionLimits kind h.places (record_transition kind r)
     record_limits e small inputs outputs =
         let clear = all_clear (record_has h r) e in
         let rest : Rest 0 r.slots = ((or_parts false _ clear.places).1, (or_parts false _ clear.ranges).1) in

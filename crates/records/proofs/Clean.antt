@@ -1,14 +1,16 @@
 -- What holds of bytes without a fault. Assumes nothing.
-use Rattle.std.proofs.Common.{◌≡◌, ℕ, zero, suc, ◌+◌, ◌-◌, ◌*◌, ◌<◌, ◌≤◌, min, Bool, true, false, cond, not, ◌&&◌, eqb, ltb, leb, List, [], ◌∷◌, length, take, drop, is_some, Some, None, Option, sym, refl, ap, ◌∙◌, arith, length-drop, length-take}
+use Rattle.std.proofs.Common.{◌≡◌, ℕ, zero, suc, ◌+◌, ◌-◌, ◌*◌, ◌<◌, ◌≤◌, min, Bool, true, false, cond, not, ◌&&◌, eqb, ltb, leb, List, [], ◌∷◌, length, take, drop, is_some, Some, None, Ok, Err, Option, Result, MatchOption, MatchResult, Bor, sym, refl, ap, ◌∙◌, arith, length-drop, length-take}
 use Rattle.std.proofs.lemmas.List.{drop-drop}
 use Rattle.std.proofs.lemmas.Bool.{false≢true, ltb-false, or_parts, and_parts, and_right, leb-true, lt-leb, cond-true, cond-false}
+use Rattle.std.specs.List.{find}
+use Rattle.std.specs.Result.{result_unwrap_or}
 use Rattle.records.specs.Bits.{field}
 use Rattle.records.specs.NetBytes.{transition_bytes, has_transition, side_count, side_start, arcs_at, slot_at}
-use Rattle.records.specs.NetRecords.{first_of, in_order, header_of, header_has, at_record, or_else, sized, header_fault, transition_refusal, transition_fault, transitions_fault, net_fault, sound, no_net, transition_record, record_has, counts_have, some_slot_has}
+use Rattle.records.specs.NetRecords.{in_order, header_of, header_has, at_record, or_else, sized, header_fault, transition_refusal, transition_fault, transitions_fault, net_fault, sound, no_net, transition_record, record_has, counts_have, some_slot_has}
 use Rattle.records.specs.Slots.{slot_of}
 use Rattle.nets.specs.declared.side.Side.{Side}
 use Rattle.nets.specs.declared.side.Side.TheVariants.{Input, Output}
-use Rattle.records.specs.declared.fault.NetFault.{NetFault}
+use Rattle.records.specs.Refusals.{NetFault}
 use Rattle.records.specs.declared.fault.NetRefusal.{NetRefusal}
 use Rattle.records.specs.declared.fault.NetRefusal.TheVariants.{BytesMissing, NotZero, OutsideLimits, NoSuchPlace, MarkUnderPlain, EmptyRange}
 use Rattle.records.specs.declared.header.NetHeader.{NetHeader}
@@ -22,6 +24,14 @@ clean_of (Some f) e = absurd (false≢true e)
 pub sound_clean : (bytes : List ℕ) → sound bytes ≡ true → net_fault bytes ≡ None
 unfolding sound
 sound_clean bytes e = clean_of (net_fault bytes) e
+
+pub clean_sound : (bytes : List ℕ) → net_fault bytes ≡ None → sound bytes ≡ true
+unfolding sound
+clean_sound bytes e = ap (λ o. not (is_some o)) e
+
+pub faulty_unsound : (bytes : List ℕ) (f : NetFault) → net_fault bytes ≡ Some f → sound bytes ≡ false
+unfolding sound
+faulty_unsound bytes f e = ap (λ o. not (is_some o)) e
 
 pub or_none : (a b : Option NetFault) → or_else a b ≡ None → (a ≡ None) × (b ≡ None)
 or_none None b e = (refl, e)
@@ -38,10 +48,10 @@ pub at_none : (at : ℕ) (o : Option NetRefusal) → at_record at o ≡ None →
 at_none at None e = refl
 at_none at (Some r) e = let z : ◌≡◌ {A = ℕ} 0 1 = cc in absurd (omega arith)
 
-pub first_none : (has : NetRefusal → Bool) (r : NetRefusal) (rs : List NetRefusal) → first_of has (r ∷ rs) ≡ None → (has r ≡ false) × (first_of has rs ≡ None)
+pub first_none : (has : NetRefusal → Bool) (r : NetRefusal) (rs : List NetRefusal) → find has (r ∷ rs) ≡ None → (has r ≡ false) × (find has rs ≡ None)
 first_none has r rs e = by_test (has r) refl e
   where
-    by_test : (t : Bool) → has r ≡ t → cond t (Some r) (first_of has rs) ≡ None → (has r ≡ false) × (first_of has rs ≡ None)
+    by_test : (t : Bool) → has r ≡ t → cond t (Some r) (find has rs) ≡ None → (has r ≡ false) × (find has rs ≡ None)
     by_test true h e = let z : ◌≡◌ {A = ℕ} 0 1 = cc in absurd (omega arith)
     by_test false h e = (h, e)
 
@@ -53,7 +63,7 @@ pub record Clear (has : NetRefusal → Bool) : Type 0 where
   pub marks : has MarkUnderPlain ≡ false
   pub ranges : has EmptyRange ≡ false
 
-pub all_clear : (has : NetRefusal → Bool) → first_of has in_order ≡ None → Clear has
+pub all_clear : (has : NetRefusal → Bool) → find has in_order ≡ None → Clear has
 all_clear has e =
     let a = first_none has NotZero (OutsideLimits ∷ (NoSuchPlace ∷ (MarkUnderPlain ∷ (EmptyRange ∷ [])))) e in
     let b = first_none has OutsideLimits (NoSuchPlace ∷ (MarkUnderPlain ∷ (EmptyRange ∷ []))) a.1 in
@@ -81,7 +91,7 @@ module _ (bytes : List ℕ) (clean : sound bytes ≡ true) where
   pub header_whole : 4 ≤ length bytes
   header_whole = (sized_none 4 0 bytes _ parts.0).0
 
-  header_first : first_of (header_has (take 4 bytes)) in_order ≡ None
+  header_first : find (header_has (take 4 bytes)) in_order ≡ None
   header_first = at_none 0 _ (sized_none 4 0 bytes _ parts.0).1
 
   pub few_transitions : (header_of (take 4 bytes)).transitions ≤ 64
@@ -122,13 +132,23 @@ module _ (bytes : List ℕ) (clean : sound bytes ≡ true) where
     pub transition_clean : transition_refusal (header_of (take 4 bytes)) (transition_bytes bytes t) ≡ None
     transition_clean = ap (λ r. transition_refusal (header_of (take 4 bytes)) (take 41 r)) (sym at_place) ∙ here.1
 
+    -- the first 41 bytes of what begins there
+    pub transition_part : {Q : Bor (List ℕ) → Type 0} (part : List ℕ) (r : Option (Bor (List ℕ))) → ((y : Bor (List ℕ)) → Q y → y.now ≡ take 41 part) → part ≡ drop (4 + 41 * (t - 1)) bytes → MatchOption r (length part < 41) Q → MatchOption r (has_transition bytes t ≡ false) (λ y. (has_transition bytes t ≡ true) × (y.now ≡ transition_bytes bytes t))
+    transition_part part None first is m = absurd (omega (arith, m, ap length is, length-drop (4 + 41 * (t - 1)) bytes, transition_whole))
+    transition_part part (Some y) first is m = (there, first y m ∙ ap (take 41) is)
+
 pub no_net_sound : sound no_net ≡ true
 unfolding sound
 no_net_sound = refl
 
+-- the net that was read, or else the one of no_net
+pub read_or_none : {P : Type 0} (of : P → List ℕ) (bytes : List ℕ) (t : Result P NetFault) (d r : P) → MatchResult t (λ net. (of net ≡ bytes) × (sound bytes ≡ true)) (λ f. net_fault bytes ≡ Some f) → of d ≡ no_net → r ≡ result_unwrap_or t d → of r ≡ cond (sound bytes) bytes no_net
+read_or_none of bytes (Ok net) d r m none is = ap of is ∙ m.0 ∙ sym (cond-true (sound bytes) bytes no_net m.1)
+read_or_none of bytes (Err f) d r m none is = ap of is ∙ none ∙ sym (cond-false (sound bytes) bytes no_net (faulty_unsound bytes f m))
+
 -- ---- slots of a transition
 -- the counts of a transition without a fault
-record_counts : (h : NetHeader) (r : TransitionRecord) → first_of (record_has h r) in_order ≡ None → (r.inputs ≤ 4) × (r.outputs ≤ 4)
+record_counts : (h : NetHeader) (r : TransitionRecord) → find (record_has h r) in_order ≡ None → (r.inputs ≤ 4) × (r.outputs ≤ 4)
 record_counts h r e =
     let counts = (or_parts (counts_have OutsideLimits r) (some_slot_has OutsideLimits h r 0 r.slots) (all_clear (record_has h r) e).in_limits).0 in
     let both = or_parts (ltb 4 r.inputs) (ltb 4 r.outputs) counts in
@@ -192,3 +212,9 @@ module _ (bytes part : List ℕ) (t : ℕ) (side : Side) (a : ℕ) (there : has_
     where
       within_by : (start n a first l : ℕ) → first + 5 * (a - 1) + 5 ≤ l → start ≡ first → n ≡ a → start + 5 * (n - 1) + 5 ≤ l
       within_by start n a first l h p q = omega arith
+
+-- the count of the bytes of the transition that was found, if one was
+pub arcs_counted : (bytes : List ℕ) (t : ℕ) (side : Side) (o : Option (Bor (List ℕ))) (n : ℕ) {Q : Bor (List ℕ) → Type 0} → MatchOption o (has_transition bytes t ≡ false) (λ y. (has_transition bytes t ≡ true) × (y.now ≡ transition_bytes bytes t)) → MatchOption o (n ≡ 0) Q → ((y : Bor (List ℕ)) → Q y → n ≡ side_count side (transition_record y.now)) → n ≡ arcs_at bytes t side
+arcs_counted bytes t side None n found is count = is ∙ sym (cond-false (has_transition bytes t) _ _ found)
+arcs_counted bytes t side (Some y) n found is count =
+    count y is ∙ ap (λ x. side_count side (transition_record x)) found.1 ∙ sym (cond-true (has_transition bytes t) _ _ found.0)

@@ -1,10 +1,11 @@
 -- Fields of bits by quotients and remainders of their bytes. Assumes nothing.
-use Rattle.std.proofs.Common.{◌≡◌, ℕ, zero, suc, ◌+◌, ◌-◌, ◌*◌, ◌/◌, ◌%◌, ◌^◌, ◌<◌, ◌≤◌, eqb, List, get_or, take, drop, sym, ap, ◌∙◌, add-zero, add-suc, mul_assoc, mul_comm, pow-suc, arith}
+use Rattle.std.proofs.Common.{◌≡◌, ℕ, zero, suc, ◌+◌, ◌-◌, ◌*◌, ◌/◌, ◌%◌, ◌^◌, ◌<◌, ◌≤◌, Bool, cond, eqb, List, get_or, take, drop, Some, None, sym, ap, ◌∙◌, add-zero, add-suc, mul_assoc, mul_comm, pow-suc, arith}
 use Rattle.std.proofs.lemmas.Nat.{mod-pow-add, shr-shr}
 use Rattle.std.proofs.lemmas.List.{get_or-take}
 use Rattle.records.specs.Bits.{bit, field, flag}
 use Rattle.records.specs.NetRecords.{transition_record}
-use Rattle.records.specs.Slots.{slot_of, slots_of}
+use Rattle.records.specs.Slots.{zero_end, end_at, slot_of, slots_of}
+use Rattle.records.specs.declared.slot.End.{End}
 use Rattle.records.specs.declared.slot.Slot.{Slot}
 use Rattle.records.specs.declared.transition.TransitionRecord.{TransitionRecord}
 
@@ -83,16 +84,18 @@ module _ (xs : List ℕ) where
       field_join xs 24 8 7 ∙ upper_parts (field xs 24 8) (field xs 32 7) (get_or xs 3 0) (get_or xs 4 0) (byte_field xs 3 0 8 (omega arith)) (byte_field xs 4 0 7 (omega arith)) h k
 
 -- a slot whose parts are those of the first five bytes
-pub split_slot : (bytes : List ℕ) (s : Slot) → ((i : ℕ) → get_or bytes i 0 < 256)
+pub split_slot : (bytes : List ℕ) (s : Slot) (upper : End) (unlimited : Bool) → ((i : ℕ) → get_or bytes i 0 < 256)
     → s.place ≡ get_or bytes 0 0 / 4
     → s.lower.strict ≡ eqb (get_or bytes 0 0 / 2 % 2) 1
     → s.lower.number ≡ get_or bytes 0 0 % 2 * 16384 + get_or bytes 1 0 * 64 + get_or bytes 2 0 / 4
-    → s.unlimited ≡ eqb (get_or bytes 2 0 / 2 % 2) 1
-    → s.upper.strict ≡ eqb (get_or bytes 2 0 / 1 % 2) 1
-    → s.upper.number ≡ get_or bytes 3 0 * 128 + get_or bytes 4 0 / 2
+    → unlimited ≡ eqb (get_or bytes 2 0 / 2 % 2) 1
+    → upper.strict ≡ eqb (get_or bytes 2 0 / 1 % 2) 1
+    → upper.number ≡ get_or bytes 3 0 * 128 + get_or bytes 4 0 / 2
     → s.spare ≡ eqb (get_or bytes 4 0 / 1 % 2) 1
+    → s.upper ≡ cond unlimited None (Some upper)
+    → s.unused ≡ cond unlimited upper zero_end
     → s ≡ slot_of (take 5 bytes)
-split_slot bytes s byte place ls ln un us un' sp =
+split_slot bytes s upper unlimited byte place ls ln un us un' sp above below =
     let xs = take 5 bytes in
     let a = get_or-take 5 bytes 0 0 (omega arith) in
     let b = get_or-take 5 bytes 1 0 (omega arith) in
@@ -104,17 +107,21 @@ split_slot bytes s byte place ls ln un us un' sp =
     let lower' = ln ∙ ap (λ n. n % 2 * 16384 + get_or bytes 1 0 * 64 + get_or bytes 2 0 / 4) (sym a) ∙ ap (λ n. get_or xs 0 0 % 2 * 16384 + n * 64 + get_or bytes 2 0 / 4) (sym b) ∙ ap (λ n. get_or xs 0 0 % 2 * 16384 + get_or xs 1 0 * 64 + n / 4) (sym c) ∙ sym (lower_field xs (small 1 1 b) (small 2 2 c)) in
     let upper' = un' ∙ ap (λ n. n * 128 + get_or bytes 4 0 / 2) (sym d) ∙ ap (λ n. get_or xs 3 0 * 128 + n / 2) (sym e) ∙ sym (upper_field xs (small 3 3 d) (small 4 4 e)) in
     let low : s.lower.strict ≡ flag xs 6 = ls ∙ ap (λ n. eqb (n / 2 % 2) 1) (sym a) in
-    let open_ended : s.unlimited ≡ flag xs 22 = un ∙ ap (λ n. eqb (n / 2 % 2) 1) (sym c) in
-    let up : s.upper.strict ≡ flag xs 23 = us ∙ ap (λ n. eqb (n / 1 % 2) 1) (sym c) in
-    let spare : s.spare ≡ flag xs 39 = sp ∙ ap (λ n. eqb (n / 1 % 2) 1) (sym e) in
-    λ i. record { place = place' i; lower = record { strict = low i; number = lower' i }; unlimited = open_ended i; upper = record { strict = up i; number = upper' i }; spare = spare i }
+    let up : upper.strict ≡ flag xs 23 = us ∙ ap (λ n. eqb (n / 1 % 2) 1) (sym c) in
+    let open_ended : unlimited ≡ flag xs 22 = un ∙ ap (λ n. eqb (n / 2 % 2) 1) (sym c) in
+    let last : s.spare ≡ flag xs 39 = sp ∙ ap (λ n. eqb (n / 1 % 2) 1) (sym e) in
+    let high : upper ≡ end_at xs 23 = λ i. record { strict = up i; number = upper' i } in
+    let above' : s.upper ≡ cond (flag xs 22) None (Some (end_at xs 23)) = above ∙ λ i. cond (open_ended i) None (Some (high i)) in
+    let below' : s.unused ≡ cond (flag xs 22) (end_at xs 23) zero_end = below ∙ λ i. cond (open_ended i) (high i) zero_end in
+    λ i. record { place = place' i; lower = record { strict = low i; number = lower' i }; upper = above' i; unused = below' i; spare = last i }
 
 -- a transition record whose counts are those of the first byte
-pub record_fields : (bytes : List ℕ) (slots : List Slot) → get_or bytes 0 0 < 256 → slots ≡ slots_of 8 (drop 1 bytes) → ◌≡◌ {A = TransitionRecord} (record { inputs = get_or bytes 0 0 / 32; outputs = get_or bytes 0 0 / 4 % 8; spare = get_or bytes 0 0 % 4; slots = slots }) (transition_record bytes)
-record_fields bytes slots byte e =
-    let i : get_or bytes 0 0 / 32 ≡ get_or bytes 0 0 / 32 % 8 = omega arith in
-    let s : get_or bytes 0 0 % 4 ≡ get_or bytes 0 0 / 1 % 4 = omega arith in
+pub record_fields : (bytes : List ℕ) (n : ℕ) (slots : List Slot) → n ≡ get_or bytes 0 0 → n < 256 → slots ≡ slots_of 8 (drop 1 bytes) → ◌≡◌ {A = TransitionRecord} (record { inputs = n / 32; outputs = n / 4 % 8; spare = n % 4; slots = slots }) (transition_record bytes)
+record_fields bytes n slots first byte e =
+    let i : n / 32 ≡ get_or bytes 0 0 / 32 % 8 = omega arith in
+    let o : n / 4 % 8 ≡ get_or bytes 0 0 / 4 % 8 = omega arith in
+    let s : n % 4 ≡ get_or bytes 0 0 / 1 % 4 = omega arith in
     let inputs' = i ∙ sym (byte_field bytes 0 0 3 (omega arith)) in
-    let outputs' = sym (byte_field bytes 0 3 3 (omega arith)) in
+    let outputs' = o ∙ sym (byte_field bytes 0 3 3 (omega arith)) in
     let spare' = s ∙ sym (byte_field bytes 0 6 2 (omega arith)) in
     λ j. record { inputs = inputs' j; outputs = outputs' j; spare = spare' j; slots = e j }

@@ -1,26 +1,30 @@
 -- Steps of the loops over the slots of a record. Assumes nothing.
-use Rattle.std.proofs.Common.{◌≡◌, ℕ, zero, suc, ◌+◌, ◌*◌, ◌<◌, ◌≤◌, true, false, ◌||◌, List, [], ◌∷◌, ◌++◌, length, get_or, take, drop, set, sym, refl, ap, ◌∙◌, arith}
-use Rattle.std.proofs.lemmas.List.{at_drop_more, at_drop_all, drop-drop, take_more_set}
-use Rattle.records.specs.NetRecords.{slot_has, some_slot_has}
+use Rattle.std.proofs.Common.{◌≡◌, ℕ, zero, suc, ◌+◌, ◌*◌, ◌<◌, Bool, true, false, cond, ◌||◌, List, [], ◌∷◌, ◌++◌, length, take, drop, set, sym, refl, ap, ◌∙◌, arith}
+use Rattle.std.proofs.lemmas.List.{drop-drop, take_more_set}
+use Rattle.std.specs.List.{list_any, zip, range_with_len}
+use Rattle.records.specs.NetRecords.{is_used, slot_has, some_slot_has}
 use Rattle.records.specs.Slots.{slot_of, slots_of}
 use Rattle.records.specs.declared.fault.NetRefusal.{NetRefusal}
+use Rattle.records.specs.declared.fault.NetRefusal.TheVariants.{OutsideLimits}
 use Rattle.records.specs.declared.header.NetHeader.{NetHeader}
 use Rattle.records.specs.declared.slot.Slot.{Slot}
 use Rattle.records.specs.declared.transition.TransitionRecord.{TransitionRecord}
 
 -- ---- looking for a slot that has a refusal
-module _ (refusal : NetRefusal) (h : NetHeader) (r : TransitionRecord) (ss : List Slot) (i : ℕ) (d : Slot) (here : i < length ss) where
-  step : some_slot_has refusal h r i (drop i ss) ≡ (slot_has refusal h r i (get_or ss i d) || some_slot_has refusal h r (i + 1) (drop (i + 1) ss))
-  step = at_drop_more (some_slot_has refusal h r i) ss i d here
+pub some_slot_zipped : (refusal : NetRefusal) (h : NetHeader) (r : TransitionRecord) (i n : ℕ) (ss : List Slot) → length ss ≡ n → list_any (λ p. slot_has refusal h r p.0 p.1) (zip (range_with_len i n) ss) ≡ some_slot_has refusal h r i ss
+some_slot_zipped refusal h r i zero [] e = refl
+some_slot_zipped refusal h r i (suc n) [] e = absurd (omega arith)
+some_slot_zipped refusal h r i zero (s ∷ ss) e = absurd (omega arith)
+some_slot_zipped refusal h r i (suc n) (s ∷ ss) e = ap (λ t. slot_has refusal h r i s || t) (some_slot_zipped refusal h r (i + 1) n ss (omega arith))
 
-  pub slot_found : true ≡ slot_has refusal h r i (get_or ss i d) → true ≡ some_slot_has refusal h r i (drop i ss)
-  slot_found e = ap (λ t. t || some_slot_has refusal h r (i + 1) (drop (i + 1) ss)) e ∙ sym step
+neither : (used : Bool) → cond used false false ≡ false
+neither true = refl
+neither false = refl
 
-  pub slot_passed : false ≡ slot_has refusal h r i (get_or ss i d) → some_slot_has refusal h r (i + 1) (drop (i + 1) ss) ≡ some_slot_has refusal h r i (drop i ss)
-  slot_passed e = ap (λ t. t || some_slot_has refusal h r (i + 1) (drop (i + 1) ss)) e ∙ sym step
-
-pub slots_passed : (refusal : NetRefusal) (h : NetHeader) (r : TransitionRecord) (ss : List Slot) (i : ℕ) → length ss ≤ i → false ≡ some_slot_has refusal h r i (drop i ss)
-slots_passed refusal h r ss i past = sym (at_drop_all (some_slot_has refusal h r i) ss i past)
+-- a slot has no count
+pub no_slot_outside : (h : NetHeader) (r : TransitionRecord) (i : ℕ) (ss : List Slot) → some_slot_has OutsideLimits h r i ss ≡ false
+no_slot_outside h r i [] = refl
+no_slot_outside h r i (s ∷ ss) = ap (λ t. t || some_slot_has OutsideLimits h r (i + 1) ss) (neither (is_used r i)) ∙ no_slot_outside h r (i + 1) ss
 
 -- ---- reading slots one after the other
 pub slots_more : (n : ℕ) (bytes : List ℕ) → slots_of (n + 1) bytes ≡ slots_of n bytes ++ (slot_of (take 5 (drop (5 * n) bytes)) ∷ [])

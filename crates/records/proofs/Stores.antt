@@ -1,5 +1,5 @@
 -- The arcs of the net that bytes say, by the slots that lie in them. Assumes nothing.
-use Rattle.std.proofs.Common.{◌≡◌, ℕ, zero, suc, ◌+◌, ◌-◌, ◌*◌, ◌<◌, ◌≤◌, min, Bool, true, false, cond, ◌&&◌, leb, List, [], map, length, get_or, take, drop, Some, None, Option, sym, refl, ap, ◌∙◌, ⊎_elim, arith, length-drop, length-take}
+use Rattle.std.proofs.Common.{◌≡◌, ℕ, zero, suc, ◌+◌, ◌-◌, ◌*◌, ◌<◌, ◌≤◌, min, Bool, true, false, cond, ◌&&◌, leb, List, [], map, length, get_or, take, drop, Some, None, Option, MatchOption, sym, refl, ap, ◌∙◌, ⊎_elim, arith, length-drop, length-take}
 use Rattle.std.proofs.lemmas.List.{drop-drop, get_or-take, get_or-drop, get_or_past, get_or-map, length-map}
 use Rattle.std.proofs.lemmas.Bool.{cases_Bool, and_parts, and_cases, and_from, and_right, leb-true, leb-false, le-leb, cond-true, cond-false, true≢false}
 use Rattle.bounds.specs.Kinds.{Kind}
@@ -116,6 +116,11 @@ module _ {B : Type 0} (kind : Kind B) where
   abbrev pub arc_from : Option Slot → Arc B
   arc_from None = none_there
   arc_from (Some s) = slot_arc kind s
+
+  -- what `map_or` makes of the slot is what `of` reads of the arc
+  pub mapped : {Y P : Type 0} {Q : Slot → Type 0} (of : Arc B → Y) (o : Option Slot) (r : Y) → MatchOption o P Q → (P → r ≡ of none_there) → ((s : Slot) → Q s → r ≡ of (slot_arc kind s)) → r ≡ of (arc_from o)
+  mapped of None r m none some = none m
+  mapped of (Some s) r m none some = some s m
 
   few_then : (c l : ℕ) → l ≡ 4 → c ≤ 4 → min c l ≡ c
   few_then c l e h = omega arith

@@ -1,7 +1,11 @@
 -- Steps of the walk through the transitions of a net. Assumes nothing.
-use Rattle.std.proofs.Common.{◌≡◌, ℕ, suc, ◌+◌, ◌-◌, ◌<◌, ◌≤◌, List, take, drop, Some, None, Ok, Err, Option, sym, refl, ap, ◌∙◌, arith}
-use Rattle.records.specs.NetRecords.{or_else, header_of, header_fault, transition_fault, transitions_fault, net_fault, tested}
-use Rattle.records.specs.declared.fault.NetFault.{NetFault}
+use Rattle.std.proofs.Common.{◌≡◌, ℕ, suc, ◌+◌, ◌-◌, ◌<◌, ◌≤◌, Bool, true, false, cond, ltb, List, length, take, drop, Some, None, Ok, Err, Option, Result, MatchResult, IsErrAnd, sym, refl, ap, ◌∙◌, arith}
+use Rattle.std.proofs.lemmas.Bool.{le-ltb, cond-false}
+use Rattle.std.proofs.lemmas.Result.{err_from_is_err_and}
+use Rattle.std.specs.List.{find}
+use Rattle.records.specs.NetRecords.{in_order, at_record, header_has, header_refusal, transition_record, record_has, transition_refusal, or_else, header_of, header_fault, transition_fault, transitions_fault, net_fault, tested}
+use Rattle.records.specs.Refusals.{NetFault}
+use Rattle.records.specs.declared.fault.NetRefusal.{NetRefusal}
 use Rattle.records.specs.declared.header.NetHeader.{NetHeader}
 
 -- what an answer of a test says of the fault
@@ -12,6 +16,41 @@ tested_ok x y (Some f) e = let z : ◌≡◌ {A = ℕ} 0 1 = cc in absurd (omega
 pub tested_err : {X : Type 0} (x : X) (f : NetFault) (o : Option NetFault) → Err f ≡ tested x o → o ≡ Some f
 tested_err x f None e = let z : ◌≡◌ {A = ℕ} 0 1 = cc in absurd (omega arith)
 tested_err x f (Some g) e = let same : g ≡ f = cc in ap Some same
+
+-- the refusal of a record, made its fault
+pub tested_at : {X : Type 0} (x : X) (o : Option NetRefusal) (at : ℕ) (t : Result X NetRefusal) (r : Result X NetFault) {Q : NetRefusal → NetFault → Type 0} → t ≡ tested x o → MatchResult t (λ y. r ≡ Ok y) (λ e. IsErrAnd r (Q e)) → ((e : NetRefusal) (f : NetFault) → Q e f → f ≡ record { refusal = e; at = at }) → r ≡ tested x (at_record at o)
+tested_at x None at t r same m is = rw same at m
+tested_at x (Some e) at t r same m is =
+    let p = err_from_is_err_and r (rw same at m) in
+    p.1 ∙ ap Err (is e p.0 p.2)
+
+-- a record that a reader handed on whole
+pub header_whole : (rest bytes : List ℕ) (at : ℕ) → 4 ≤ length rest → bytes ≡ take 4 rest → length bytes ≡ 4 → at ≡ 0 → tested (header_of bytes) (at_record at (header_refusal bytes)) ≡ tested (header_of (take 4 rest)) (header_fault rest)
+header_whole rest bytes at long is whole first =
+    ap (λ o. tested (header_of bytes) (at_record at o)) (cond-false (ltb (length bytes) 4) _ _ (le-ltb (length bytes) 4 (omega arith)))
+    ∙ ap (λ n. tested (header_of bytes) (at_record n (find (header_has bytes) in_order))) first
+    ∙ ap (λ b. tested (header_of b) (at_record 0 (find (header_has b) in_order))) is
+    ∙ ap (tested (header_of (take 4 rest))) (sym (cond-false (ltb (length rest) 4) _ _ (le-ltb (length rest) 4 long)))
+
+pub transition_whole : (h : NetHeader) (rest bytes : List ℕ) (at next : ℕ) → 41 ≤ length rest → bytes ≡ take 41 rest → at ≡ next → tested {X = Unit {0}} tt (at_record at (transition_refusal h bytes)) ≡ tested {X = Unit {0}} tt (transition_fault h next rest)
+transition_whole h rest bytes at next long is same =
+    ap (λ n. tested tt (at_record n (transition_refusal h bytes))) same
+    ∙ ap (λ b. tested tt (at_record next (transition_refusal h b))) is
+    ∙ ap (tested tt) (sym (cond-false (ltb (length rest) 41) _ _ (le-ltb (length rest) 41 long)))
+
+-- the test of a transition's bytes
+pub transition_tested : (h : NetHeader) (bytes : List ℕ) (r : Result Unit NetRefusal) → r ≡ tested tt (find (record_has h (transition_record bytes)) in_order) → r ≡ tested tt (transition_refusal h bytes)
+unfolding transition_refusal
+transition_tested h bytes r e = e
+
+-- a record that is read before it is tested
+pub read_err : {X Y F : Type 0} (short : Bool) (m e : F) (x : X) (y r : Result Y F) → Err e ≡ cond short (Err m) (Ok x) → r ≡ Err e → r ≡ cond short (Err m) y
+read_err true m e x y r is end = end ∙ ap Err (cc)
+read_err false m e x y r is end = let z : ◌≡◌ {A = ℕ} 0 1 = cc in absurd (omega arith)
+
+pub read_ok : {X Y F : Type 0} (short : Bool) (m : F) (x v : X) (y : Result Y F) → Ok v ≡ cond short (Err m) (Ok x) → (v ≡ x) × (y ≡ cond short (Err m) y)
+read_ok true m x v y is = let z : ◌≡◌ {A = ℕ} 0 1 = cc in absurd (omega arith)
+read_ok false m x v y is = (cc, refl)
 
 -- the transitions from here on have the fault that all of them have
 abbrev pub Walked : NetHeader → ℕ → ℕ → List ℕ → List ℕ → Type 0

@@ -7,14 +7,19 @@ use Rattle.nets.specs.declared.side.Side.{Side}
 use Rattle.nets.specs.declared.side.Side.TheVariants.{Input, Output}
 use Rattle.records.specs.Slots.{slot_of}
 use Rattle.records.specs.NetRecords.{header_of, transition_record}
+use Rattle.records.specs.declared.slot.End.{End}
 use Rattle.records.specs.declared.slot.Slot.{Slot}
 use Rattle.records.specs.declared.transition.TransitionRecord.{TransitionRecord}
+
+abbrev pub upper_bound : {B : Type 0} → Kind B → Option End → B
+upper_bound kind None = kind.no_limit
+upper_bound kind (Some e) = kind.number (pos e.number) (e.strict && kind.marks)
 
 -- the range of a slot; a kind without marks has none of them
 abbrev pub slot_range : {B : Type 0} → Kind B → Slot → Range B
 slot_range kind s =
     record {
-      upper = cond s.unlimited kind.no_limit (kind.number (pos s.upper.number) (s.upper.strict && kind.marks));
+      upper = upper_bound kind s.upper;
       lower = kind.number (neg_ℤ (pos s.lower.number)) (s.lower.strict && kind.marks);
     }
 

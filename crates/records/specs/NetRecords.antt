@@ -3,19 +3,16 @@
 --     fault       a refusal and the number of its record; within a record the lowest number counts
 -- Assumes nothing.
 use Rattle.std.specs.Prelude.{ℕ, zero, suc, ◌+◌, Bool, false, cond, not, ◌||◌, List, [], ◌∷◌, length, take, drop, is_some, Some, None, Ok, Err, Option, Result, ◌==◌, nat_lt}
+use Rattle.std.specs.List.{find}
 use Rattle.records.specs.Bits.{field}
 use Rattle.records.specs.Slots.{slots_of, used_has, unused_has}
-use Rattle.records.specs.declared.fault.NetFault.{NetFault}
+use Rattle.records.specs.Refusals.{NetFault}
 use Rattle.records.specs.declared.fault.NetRefusal.{NetRefusal}
 use Rattle.records.specs.declared.fault.NetRefusal.TheVariants.{BytesMissing, NotZero, OutsideLimits, NoSuchPlace, MarkUnderPlain, EmptyRange}
 use Rattle.records.specs.declared.header.NetHeader.{NetHeader}
+use Rattle.records.specs.declared.header.NetKind.TheVariants.{Plain, Marked}
 use Rattle.records.specs.declared.slot.Slot.{Slot}
 use Rattle.records.specs.declared.transition.TransitionRecord.{TransitionRecord}
-
--- the first of the refusals that holds
-abbrev pub first_of : (NetRefusal → Bool) → List NetRefusal → Option NetRefusal
-first_of has [] = None
-first_of has (r ∷ rs) = cond (has r) (Some r) (first_of has rs)
 
 -- those that a record of full length may have, in ascending number
 abbrev pub in_order : List NetRefusal
@@ -24,7 +21,7 @@ in_order = NotZero ∷ (OutsideLimits ∷ (NoSuchPlace ∷ (MarkUnderPlain ∷ (
 -- ---- the net header: kind 2 bits, places less one 6, transitions 7, spare 17
 -- kind 2 is marked; 0 and 1 are plain
 abbrev pub header_of : List ℕ → NetHeader
-header_of bytes = record { marked = (field bytes 0 2 == 2); places = field bytes 2 6 + 1; transitions = field bytes 8 7 }
+header_of bytes = record { kind = cond (field bytes 0 2 == 2) Marked Plain; places = field bytes 2 6 + 1; transitions = field bytes 8 7 }
 
 abbrev pub header_has : List ℕ → NetRefusal → Bool
 header_has bytes BytesMissing = false
@@ -33,6 +30,10 @@ header_has bytes OutsideLimits = field bytes 0 2 == 3 || nat_lt 64 (field bytes 
 header_has bytes NoSuchPlace = false
 header_has bytes MarkUnderPlain = false
 header_has bytes EmptyRange = false
+
+-- what is wrong with a header's bytes, lowest number first
+abbrev pub header_refusal : List ℕ → Option NetRefusal
+header_refusal bytes = cond (nat_lt (length bytes) 4) (Some BytesMissing) (find (header_has bytes) in_order)
 
 -- ---- a transition: input count 3 bits, output count 3, spare 2, four input slots, four output slots
 abbrev pub transition_record : List ℕ → TransitionRecord
@@ -65,7 +66,7 @@ record_has h r refusal = counts_have refusal r || some_slot_has refusal h r 0 r.
 
 -- what is wrong with a transition's 41 bytes, lowest number first
 unfoldable pub transition_refusal : NetHeader → List ℕ → Option NetRefusal
-transition_refusal h bytes = first_of (record_has h (transition_record bytes)) in_order
+transition_refusal h bytes = find (record_has h (transition_record bytes)) in_order
 
 -- ---- the whole net
 abbrev pub at_record : ℕ → Option NetRefusal → Option NetFault
@@ -81,7 +82,7 @@ abbrev pub sized : ℕ → ℕ → List ℕ → Option NetFault → Option NetFa
 sized size at bytes fault = cond (nat_lt (length bytes) size) (Some (record { refusal = BytesMissing; at = at })) fault
 
 abbrev pub header_fault : List ℕ → Option NetFault
-header_fault bytes = sized 4 0 bytes (at_record 0 (first_of (header_has (take 4 bytes)) in_order))
+header_fault bytes = sized 4 0 bytes (at_record 0 (find (header_has (take 4 bytes)) in_order))
 
 abbrev pub transition_fault : NetHeader → ℕ → List ℕ → Option NetFault
 transition_fault h at bytes = sized 41 at bytes (at_record at (transition_refusal h (take 41 bytes)))
@@ -95,8 +96,8 @@ abbrev pub net_fault : List ℕ → Option NetFault
 net_fault bytes =
     or_else (header_fault bytes) (transitions_fault (header_of (take 4 bytes)) (header_of (take 4 bytes)).transitions 1 (drop 4 bytes))
 
--- what a test answers: the header, or the first fault
-abbrev pub tested : {X : Type 0} → X → Option NetFault → Result X NetFault
+-- what a test answers: what it read, or what is wrong
+abbrev pub tested : {X F : Type 0} → X → Option F → Result X F
 tested x None = Ok x
 tested x (Some fault) = Err fault
 

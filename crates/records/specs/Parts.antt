@@ -1,5 +1,5 @@
 -- What a reader hands on. Assumes nothing.
-use Rattle.std.specs.Prelude.{◌≡◌, ℕ, ◌+◌, ◌<◌, ◌≤◌, ◌⊎◌, List, length, take, drop, Ok, Err, Result}
+use Rattle.std.specs.Prelude.{◌≡◌, ℕ, ◌+◌, ◌<◌, ◌≤◌, ◌⊎◌, true, List, length, take, drop, is_ok, Ok, Err, Result}
 use Rattle.records.specs.declared.fault.Missing.{Missing}
 use Rattle.records.specs.declared.reader.Part.{Part}
 
@@ -9,3 +9,7 @@ Parted size rest next (Ok part) left after =
     (0 < size) × (size ≤ length rest) × (part.bytes.now ≡ take size rest) × (length part.bytes.now ≡ size) × (part.at ≡ next) × (left ≡ drop size rest) × (after ≡ next + 1)
 Parted size rest next (Err missing) left after =
     ((size ≡ 0) ⊎ (length rest < size)) × (missing.at ≡ next) × (left ≡ rest) × (after ≡ next)
+
+-- a record of this size is behind the reader, if all went well
+abbrev pub Moved : {T E : Type 0} → ℕ → List ℕ → ℕ → Result T E → List ℕ → ℕ → Type 0
+Moved size rest next result left after = is_ok result ≡ true → (left ≡ drop size rest) × (after ≡ next + 1)

@@ -1,6 +1,6 @@
 -- The number and the text of each refusal of a net record. Assumes nothing.
 use Rattle.std.specs.Prelude.{ℕ, List, ◌++◌, codes, decimal}
-use Rattle.records.specs.declared.fault.NetFault.{NetFault}
+use Rattle.records.specs.declared.fault.Fault.{Fault}
 use Rattle.records.specs.declared.fault.NetRefusal.{NetRefusal}
 use Rattle.records.specs.declared.fault.NetRefusal.TheVariants.{BytesMissing, NotZero, OutsideLimits, NoSuchPlace, MarkUnderPlain, EmptyRange}
 
@@ -21,6 +21,12 @@ refusal_text MarkUnderPlain = codes "a strict mark under plain kind"
 refusal_text EmptyRange = codes "the bounds of a range sum below zero"
 
 -- a refusal by number and text, with its record
+abbrev pub located : {R : Type 0} → (R → ℕ) → (R → List ℕ) → Fault R → List ℕ
+located number text fault =
+    decimal (number fault.refusal) ++ (codes " in record " ++ (decimal fault.at ++ (codes ": " ++ text fault.refusal)))
+
+abbrev pub NetFault : Type 0
+NetFault = Fault NetRefusal
+
 abbrev pub fault_text : NetFault → List ℕ
-fault_text fault =
-    decimal (refusal_number fault.refusal) ++ (codes " in record " ++ (decimal fault.at ++ (codes ": " ++ refusal_text fault.refusal)))
+fault_text = located refusal_number refusal_text

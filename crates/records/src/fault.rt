@@ -1,9 +1,27 @@
-// Faults of net records: what is wrong, and in which record.
-ghost use Rattle.records.specs.Refusals.{refusal_number, refusal_text, fault_text};
+// Faults of records: what is wrong, and in which record.
+ghost use Rattle.records.specs.Refusals.{refusal_number, refusal_text, located};
 ghost use Rattle.records.specs.declared.fault.NetRefusal.TheVariants.{BytesMissing};
-ghost use Rattle.std.specs.Prelude.{◌≡◌, Some};
+ghost use Rattle.std.specs.Prelude.{◌≡◌, ℕ, List, Some, refl};
 
 use std::fmt;
+
+// Why a record is refused. Each refusal has a number and a text.
+pub trait Refusal: Copy + fmt::Display {
+    ghost number_of: { Self → ℕ };
+
+    ghost text_of: { Self → List ℕ };
+
+    ghost missing: { Self };
+
+    fn number(self) -> u8
+        ensures { result ≡ number_of self };
+
+    // The refusal of a record whose bytes are not there.
+    fn missing() -> Self
+        ensures { result ≡ missing };
+
+    ghost displays: { (r : Self) → Self.output r ≡ Some (text_of r) };
+}
 
 // Why a net record is refused, by number.
 #[derive(Clone, Copy, PartialEq, Eq, Debug)]
@@ -19,11 +37,21 @@ pub enum NetRefusal {
     EmptyRange = 15,
 }
 
-impl NetRefusal {
-    pub fn number(self) -> u8
-        ensures { result ≡ refusal_number self }
-    {
+impl Refusal for NetRefusal {
+    ghost number_of = { refusal_number };
+
+    ghost text_of = { refusal_text };
+
+    ghost missing = { BytesMissing };
+
+    ghost displays = { λ r. refl };
+
+    fn number(self) -> u8 {
         self as u8
+    }
+
+    fn missing() -> NetRefusal {
+        NetRefusal::BytesMissing
     }
 }
 
@@ -31,26 +59,28 @@ impl fmt::Display for NetRefusal {
     ghost output = { λ r. Some (refusal_text r) };
 
     fn fmt<W: fmt::Write>(&self, f: &mut fmt::Formatter<W>) -> fmt::Result {
-        match self {
-            NetRefusal::BytesMissing => write!(f, "bytes are missing"),
-            NetRefusal::NotZero => write!(f, "a spare or unused field is not zero"),
-            NetRefusal::OutsideLimits => write!(f, "a count or the kind is outside its limits"),
-            NetRefusal::NoSuchPlace => write!(f, "a place is not in the net"),
-            NetRefusal::MarkUnderPlain => write!(f, "a strict mark under plain kind"),
-            NetRefusal::EmptyRange => write!(f, "the bounds of a range sum below zero"),
-        }
+        f.write_str(match self {
+            NetRefusal::BytesMissing => "bytes are missing",
+            NetRefusal::NotZero => "a spare or unused field is not zero",
+            NetRefusal::OutsideLimits => "a count or the kind is outside its limits",
+            NetRefusal::NoSuchPlace => "a place is not in the net",
+            NetRefusal::MarkUnderPlain => "a strict mark under plain kind",
+            NetRefusal::EmptyRange => "the bounds of a range sum below zero",
+        })
     }
 }
 
-// Records are counted from 0.
+// A refusal, and which record has it. Records are counted from 0.
 #[derive(Clone, Copy, PartialEq, Eq, Debug)]
-pub struct NetFault {
-    pub refusal: NetRefusal,
+pub struct Fault<R> {
+    pub refusal: R,
     pub at: usize,
 }
 
-impl fmt::Display for NetFault {
-    ghost output = { λ fault. Some (fault_text fault) };
+pub type NetFault = Fault<NetRefusal>;
+
+impl<R: Refusal> fmt::Display for Fault<R> {
+    ghost output = { λ fault. Some (located R.number_of R.text_of fault) };
 
     fn fmt<W: fmt::Write>(&self, f: &mut fmt::Formatter<W>) -> fmt::Result {
         let number = self.refusal.number();
@@ -66,11 +96,13 @@ pub struct Missing {
     pub at: usize,
 }
 
-impl From<Missing> for NetFault {
-    ghost from_gives = { λ m r. r ≡ record { refusal = BytesMissing; at = m.at } };
+impl<R: Refusal> From<Missing> for Fault<R> {
+    ghost from_gives = { λ m r. r ≡ record { refusal = R.missing; at = m.at } };
 
-    fn from(m: Missing) -> NetFault {
-        let refusal = NetRefusal::BytesMissing;
-        NetFault { refusal, at: m.at }
+    fn from(m: Missing) -> Fault<R> {
+        Fault {
+            refusal: R::missing(),
+            at: m.at,
+        }
     }
 }

@@ -1,13 +1,19 @@
 // The net header: how many places and transitions, and of which kind the bounds are.
-ghost use Rattle.records.specs.NetRecords.{header_of, header_has, first_of, in_order};
-ghost use Rattle.std.specs.Prelude.{◌≡◌, length};
+ghost use Rattle.records.specs.NetRecords.{header_of, header_refusal, tested};
+ghost use Rattle.std.specs.Prelude.{◌≡◌};
 
 use crate::fault::NetRefusal;
 
+// Whether bounds may carry strict marks.
+#[derive(Clone, Copy, PartialEq, Eq, Debug)]
+pub enum NetKind {
+    Plain,
+    Marked,
+}
+
 #[derive(Clone, Copy, PartialEq, Eq, Debug)]
 pub struct NetHeader {
-    // of marked kind, else plain
-    pub marked: bool,
+    pub kind: NetKind,
     pub places: u8,
     pub transitions: u8,
 }
@@ -15,29 +21,29 @@ pub struct NetHeader {
 impl NetHeader {
     pub const SIZE: usize = 4;
 
-    // The header that four bytes say.
-    pub(crate) fn read(bytes: &[u8]) -> NetHeader
-        requires { length bytes.now ≡ 4 }
-        ensures { result ≡ header_of bytes.now }
+    // The header at the front of the bytes, or what is wrong with it, lowest number first.
+    pub(crate) fn read(bytes: &[u8]) -> Result<NetHeader, NetRefusal>
+        ensures { result ≡ tested (header_of bytes.now) (header_refusal bytes.now) }
     {
-        NetHeader {
-            marked: bytes[0] / 64 == 2,
-            places: bytes[0] % 64 + 1,
-            transitions: bytes[1] / 2,
+        let [first, second, third, fourth, ..] = *bytes else {
+            return Err(NetRefusal::BytesMissing);
+        };
+        if second % 2 != 0 || third != 0 || fourth != 0 {
+            return Err(NetRefusal::NotZero);
         }
-    }
-
-    // What is wrong with the header, lowest number first.
-    pub(crate) fn refusal(bytes: &[u8]) -> Option<NetRefusal>
-        requires { length bytes.now ≡ 4 }
-        ensures { result ≡ first_of (header_has bytes.now) in_order }
-    {
-        if bytes[1] % 2 != 0 || bytes[2] != 0 || bytes[3] != 0 {
-            return Some(NetRefusal::NotZero);
+        let kind = match first / 64 {
+            0 | 1 => NetKind::Plain,
+            2 => NetKind::Marked,
+            _ => return Err(NetRefusal::OutsideLimits),
+        };
+        let transitions = second / 2;
+        if transitions > 64 {
+            return Err(NetRefusal::OutsideLimits);
         }
-        if bytes[0] / 64 == 3 || bytes[1] / 2 > 64 {
-            return Some(NetRefusal::OutsideLimits);
-        }
-        None
+        Ok(NetHeader {
+            kind,
+            places: first % 64 + 1,
+            transitions,
+        })
     }
 }

@@ -1,11 +1,15 @@
 // The packed net store: net records in borrowed bytes, tested first.
-ghost use Rattle.records.specs.NetRecords.{sound};
-ghost use Rattle.std.specs.Prelude.{◌≡◌, true};
+ghost use Rattle.records.specs.NetRecords.{header_of, sound};
+ghost use Rattle.std.specs.Prelude.{◌≡◌, true, take};
+
+use crate::header::NetHeader;
 
 #[derive(Clone, Copy)]
 pub struct PackedNet<'a> {
+    header: NetHeader,
     bytes: &'a [u8],
     ghost tested: { sound bytes.now ≡ true },
+    ghost read: { header ≡ header_of (take 4 bytes.now) },
 }
 
 mod answers;

@@ -1,11 +1,8 @@
 // Arc slots: a place and a range in five bytes.
-ghost use Rattle.records.specs.Slots.{slot_of, is_set, is_blank, is_empty, used_has, unused_has};
-ghost use Rattle.std.specs.Prelude.{◌≡◌, ◌/◌, ◌%◌, ◌^◌, ◌<◌, length, take, drop, MatchOption, ◌==◌};
+ghost use Rattle.records.specs.Slots.{slot_of, is_blank, is_empty, has_mark, has_stray_bit};
+ghost use Rattle.std.specs.Prelude.{◌≡◌, ◌/◌, ◌%◌, ◌^◌, ◌<◌, ◌≤◌, length, take, drop, MatchOption, ◌==◌};
 
-use crate::fault::NetRefusal;
-use crate::header::NetHeader;
-
-// One end of a range.
+// One end of a range as its 16 bits say it: never below zero, as a number with a mark may be.
 #[derive(Clone, Copy, PartialEq, Eq, Debug)]
 pub struct End {
     pub strict: bool,
@@ -16,18 +13,11 @@ pub struct End {
 pub struct Slot {
     pub place: u8,
     pub lower: End,
-    // without limit above; the upper end is then unused
-    pub unlimited: bool,
-    pub upper: End,
+    // None: no limit above
+    pub upper: Option<End>,
+    // what stands in the upper end's bits where there is no limit
+    pub unused: End,
     pub spare: bool,
-}
-
-impl End {
-    pub(crate) fn is_set(self) -> bool
-        ensures { result ≡ is_set self }
-    {
-        self.strict || self.number != 0
-    }
 }
 
 // A bit of a byte, counted from the lowest.
@@ -38,24 +28,27 @@ fn bit(byte: u8, place: u8) -> bool
     (byte >> place) % 2 == 1
 }
 
+impl End {
+    const ZERO: End = End {
+        strict: false,
+        number: 0,
+    };
+}
+
 impl Slot {
+    pub(crate) const SIZE: usize = 5;
+
     pub const BLANK: Slot = Slot {
         place: 0,
-        lower: End {
-            strict: false,
-            number: 0,
-        },
-        unlimited: false,
-        upper: End {
-            strict: false,
-            number: 0,
-        },
+        lower: End::ZERO,
+        upper: Some(End::ZERO),
+        unused: End::ZERO,
         spare: false,
     };
 
     // The slot at the front of the bytes, and the bytes that follow it.
     pub fn split(bytes: &[u8]) -> Option<(Slot, &[u8])>
-        ensures { MatchOption result (length bytes.now < 5) (λ p. (p.0 ≡ slot_of (take 5 bytes.now)) × (p.1.now ≡ drop 5 bytes.now)) }
+        ensures { MatchOption result (length bytes.now < 5) (λ p. (5 ≤ length bytes.now) × (p.0 ≡ slot_of (take 5 bytes.now)) × (p.1.now ≡ drop 5 bytes.now)) }
     {
         let [a, b, c, d, e, rest @ ..] = bytes else {
             return None;
@@ -68,11 +61,12 @@ impl Slot {
             strict: bit(*c, 0),
             number: u16::from(*d) * 128 + u16::from(e / 2),
         };
+        let unlimited = bit(*c, 1);
         let slot = Slot {
             place: a / 4,
             lower,
-            unlimited: bit(*c, 1),
-            upper,
+            upper: if unlimited { None } else { Some(upper) },
+            unused: if unlimited { upper } else { End::ZERO },
             spare: bit(*e, 0),
         };
         Some((slot, rest))
@@ -81,49 +75,31 @@ impl Slot {
     pub(crate) fn is_blank(self) -> bool
         ensures { result ≡ is_blank self }
     {
-        self.place == 0
-            && !self.lower.is_set()
-            && !self.unlimited
-            && !self.upper.is_set()
-            && !self.spare
+        self == Slot::BLANK
     }
 
     // Whether the bounds of the range sum below zero.
     pub(crate) fn is_empty(self) -> bool
         ensures { result ≡ is_empty self }
     {
-        if self.unlimited {
-            return false;
-        }
-        if self.lower.number == self.upper.number {
-            self.lower.strict | self.upper.strict
-        } else {
-            self.upper.number < self.lower.number
-        }
+        let lower = self.lower;
+        self.upper.is_some_and(|upper| {
+            upper.number < lower.number
+                || upper.number == lower.number && (lower.strict | upper.strict)
+        })
     }
 
-    // Whether the refusal holds of this slot where it is used.
-    pub(crate) fn used_has(self, refusal: NetRefusal, header: NetHeader) -> bool
-        ensures { result ≡ used_has refusal header self }
+    // Whether an end has a mark, also one behind no limit.
+    pub(crate) fn has_mark(self) -> bool
+        ensures { result ≡ has_mark self }
     {
-        match refusal {
-            NetRefusal::BytesMissing => false,
-            NetRefusal::NotZero => self.spare || self.unlimited && self.upper.is_set(),
-            NetRefusal::OutsideLimits => false,
-            NetRefusal::NoSuchPlace => header.places <= self.place,
-            NetRefusal::MarkUnderPlain => !header.marked
-                && (self.lower.strict || self.upper.strict),
-            NetRefusal::EmptyRange => self.is_empty(),
-        }
+        self.lower.strict || self.upper.is_some_and(|upper| upper.strict) || self.unused.strict
     }
 
-    // And where it is not.
-    pub(crate) fn unused_has(self, refusal: NetRefusal) -> bool
-        ensures { result ≡ unused_has refusal self }
+    // Whether a bit that says nothing is set.
+    pub(crate) fn has_stray_bit(self) -> bool
+        ensures { result ≡ has_stray_bit self }
     {
-        match refusal {
-            NetRefusal::NotZero => !self.is_blank(),
-            _ => false,
-        }
+        self.spare || self.unused != End::ZERO
     }
 }

@@ -1,10 +1,15 @@
 // Transition records: counts, and four slots a side.
-ghost use Rattle.std.specs.Prelude.{◌≡◌, ◌≤◌, length};
-ghost use Rattle.records.specs.NetRecords.{transition_record, is_used, slot_has, some_slot_has, counts_have, record_has, first_of, in_order};
-ghost use Rattle.records.specs.Slots.{slots_of};
+ghost use Rattle.std.specs.Prelude.{◌≡◌, Bool, length, nat_lt, cond, Ok, Err};
+ghost use Rattle.records.specs.NetRecords.{transition_record, is_used, some_slot_has, record_has, in_order, transition_refusal, tested};
+ghost use Rattle.records.specs.Slots.{used_has, unused_has};
+ghost use Rattle.records.specs.declared.fault.NetRefusal.{NetRefusal};
+ghost use Rattle.records.specs.declared.fault.NetRefusal.TheVariants.{BytesMissing};
+ghost use Rattle.records.specs.declared.header.NetHeader.{NetHeader};
+ghost use Rattle.records.specs.declared.slot.Slot.{Slot};
+ghost use Rattle.std.specs.List.{find};
 
 use crate::fault::NetRefusal;
-use crate::header::NetHeader;
+use crate::header::{NetHeader, NetKind};
 use crate::slot::Slot;
 
 #[derive(Clone, Copy)]
@@ -15,38 +20,24 @@ pub struct TransitionRecord {
     pub slots: [Slot; 8],
 }
 
-// The eight slots of a record.
-fn read_slots(bytes: &[u8]) -> [Slot; 8]
-    requires { 40 ≤ length bytes.now }
-    ensures { result ≡ slots_of 8 bytes.now }
-{
-    let mut slots = [Slot::BLANK; 8];
-    let mut rest = bytes;
-    for i in 0..8 {
-        let Some((slot, next)) = Slot::split(rest) else {
-            unreachable()
-        };
-        slots[i] = slot;
-        rest = next;
-    }
-    slots
-}
-
 impl TransitionRecord {
-    pub const SIZE: usize = 41;
+    pub const SIZE: usize = 1 + 8 * Slot::SIZE;
 
-    // The record that 41 bytes say.
-    pub(crate) fn read(bytes: &[u8]) -> TransitionRecord
-        requires { length bytes.now ≡ 41 }
-        ensures { result ≡ transition_record bytes.now }
+    // The record at the front of the bytes.
+    fn read(bytes: &[u8]) -> Result<TransitionRecord, NetRefusal>
+        ensures { result ≡ cond (nat_lt (length bytes.now) 41) (Err BytesMissing) (Ok (transition_record bytes.now)) }
     {
-        let counts = bytes[0];
-        TransitionRecord {
+        let (counts, mut rest) = bytes.split_first().ok_or(NetRefusal::BytesMissing)?;
+        let mut slots = [Slot::BLANK; 8];
+        for slot in &mut slots {
+            (*slot, rest) = Slot::split(rest).ok_or(NetRefusal::BytesMissing)?;
+        }
+        Ok(TransitionRecord {
             inputs: counts / 32,
             outputs: counts / 4 % 8,
             spare: counts % 4,
-            slots: read_slots(&bytes[1..]),
-        }
+            slots,
+        })
     }
 
     // Whether slot `i`, counted from 0, is used.
@@ -60,62 +51,52 @@ impl TransitionRecord {
         }
     }
 
-    fn slot_has(&self, refusal: NetRefusal, header: NetHeader, i: usize, slot: Slot) -> bool
-        ensures { result ≡ slot_has refusal header self.now i slot }
+    // Whether the test holds of some slot; it is told whether the slot is used.
+    fn some_slot<F: Fn(bool, Slot) -> bool>(&self, test: F) -> bool
+        requires { F.IsAlwaysCallable test }
+        ensures { (refusal : NetRefusal) (h : NetHeader) → ((used : Bool) (s : Slot) (b : Bool) → F.post test used s b → b ≡ cond used (used_has refusal h s) (unused_has refusal s)) → result ≡ some_slot_has refusal h self.now 0 self.now.slots }
     {
-        if self.is_used(i) {
-            slot.used_has(refusal, header)
-        } else {
-            slot.unused_has(refusal)
-        }
-    }
-
-    fn some_slot_has(&self, slots: &[Slot], refusal: NetRefusal, header: NetHeader) -> bool
-        ensures { result ≡ some_slot_has refusal header self.now 0 slots.now }
-    {
-        for (i, slot) in slots.iter().enumerate() {
-            if self.slot_has(refusal, header, i, *slot) {
-                return true;
-            }
-        }
-        false
-    }
-
-    fn counts_have(&self, refusal: NetRefusal) -> bool
-        ensures { result ≡ counts_have refusal self.now }
-    {
-        match refusal {
-            NetRefusal::NotZero => self.spare != 0,
-            NetRefusal::OutsideLimits => self.inputs > 4 || self.outputs > 4,
-            _ => false,
-        }
-    }
-
-    fn has(&self, refusal: NetRefusal, header: NetHeader) -> bool
-        ensures { result ≡ record_has header self.now refusal }
-    {
-        self.counts_have(refusal) || self.some_slot_has(&self.slots, refusal, header)
+        // Numbers beside the slots, since an `any` after `enumerate` has no law to prove it by.
+        (0..8)
+            .zip(self.slots.iter())
+            .any(|(i, slot)| test(self.is_used(i), *slot))
     }
 
     // What is wrong with the record, lowest number first.
-    pub(crate) fn refusal(&self, header: NetHeader) -> Option<NetRefusal>
-        ensures { result ≡ first_of (record_has header self.now) in_order }
+    fn check(&self, header: NetHeader) -> Result<(), NetRefusal>
+        ensures { result ≡ tested tt (find (record_has header self.now) in_order) }
     {
-        if self.has(NetRefusal::NotZero, header) {
-            return Some(NetRefusal::NotZero);
+        if self.spare != 0
+            || self.some_slot(|used, slot| {
+                if used {
+                    slot.has_stray_bit()
+                } else {
+                    !slot.is_blank()
+                }
+            })
+        {
+            return Err(NetRefusal::NotZero);
         }
-        if self.has(NetRefusal::OutsideLimits, header) {
-            return Some(NetRefusal::OutsideLimits);
+        if self.inputs > 4 || self.outputs > 4 {
+            return Err(NetRefusal::OutsideLimits);
         }
-        if self.has(NetRefusal::NoSuchPlace, header) {
-            return Some(NetRefusal::NoSuchPlace);
+        if self.some_slot(|used, slot| used && header.places <= slot.place) {
+            return Err(NetRefusal::NoSuchPlace);
         }
-        if self.has(NetRefusal::MarkUnderPlain, header) {
-            return Some(NetRefusal::MarkUnderPlain);
+        let plain = header.kind == NetKind::Plain;
+        if self.some_slot(|used, slot| used && plain && slot.has_mark()) {
+            return Err(NetRefusal::MarkUnderPlain);
         }
-        if self.has(NetRefusal::EmptyRange, header) {
-            return Some(NetRefusal::EmptyRange);
+        if self.some_slot(|used, slot| used && slot.is_empty()) {
+            return Err(NetRefusal::EmptyRange);
         }
-        None
+        Ok(())
+    }
+
+    // The same of the record at the front of the bytes.
+    pub(crate) fn test(bytes: &[u8], header: NetHeader) -> Result<(), NetRefusal>
+        ensures { result ≡ cond (nat_lt (length bytes.now) 41) (Err BytesMissing) (tested tt (transition_refusal header bytes.now)) }
+    {
+        TransitionRecord::read(bytes)?.check(header)
     }
 }

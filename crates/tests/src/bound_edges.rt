@@ -1,26 +1,14 @@
-// Edges of the two kinds of bounds.
+// Edges of the kinds of bounds: plain, marked and compact.
 use bounds::{Bound, MakeError};
 #[cfg(test)]
 use std::process::Abort;
 #[cfg(test)]
 use std::test::Fail;
 
-// 2^n, by doubling 1.
-fn power<B: Bound>(n: u8) -> Result<B, MakeError> {
-    let mut b = B::make(1, false)?;
-    for _ in 0..n {
-        b = b.sum(b);
-    }
-    Ok(b)
-}
-
-// The negated power.
-fn negated_power<B: Bound>(n: u8) -> Result<B, MakeError> {
-    let mut b = B::make(-1, false)?;
-    for _ in 0..n {
-        b = b.sum(b);
-    }
-    Ok(b)
+// A number, doubled so many times.
+fn doubled<B: Bound>(number: i32, times: u8) -> Result<B, MakeError> {
+    let first = B::make(number, false)?;
+    Ok((0..times).fold(first, |b: B, _| b.sum(b)))
 }
 
 fn same<B: Bound>(a: B, b: B) -> bool {
@@ -31,26 +19,24 @@ fn below<B: Bound>(a: B, b: B) -> bool {
     a.at_most(b) && !b.at_most(a)
 }
 
-fn takes<B: Bound>(number: i32, strict: bool) -> Option<MakeError> {
-    match B::make(number, strict) {
-        Ok(_) => None,
-        Err(e) => Some(e),
-    }
+// Whether a bound is made, or why not.
+fn takes<B: Bound>(number: i32, strict: bool) -> Result<(), MakeError> {
+    B::make(number, strict).map(|_| ())
 }
 
 // What every kind does at the edges.
 #[cfg(test)]
 fn check_edges<B: Bound>(rt: &impl Abort) -> Result<(), Fail> {
-    assert!(rt; takes::<B>(262_143, false).is_none());
-    assert!(rt; takes::<B>(-262_143, false).is_none());
-    assert!(rt; matches!(takes::<B>(262_144, false), Some(MakeError::OutsideLimits)));
-    assert!(rt; matches!(takes::<B>(-262_144, false), Some(MakeError::OutsideLimits)));
-    assert!(rt; matches!(takes::<B>(-262_144, true), Some(MakeError::OutsideLimits)));
+    assert!(rt; takes::<B>(262_143, false).is_ok());
+    assert!(rt; takes::<B>(-262_143, false).is_ok());
+    assert_eq!(rt; takes::<B>(262_144, false), Err(MakeError::OutsideLimits));
+    assert_eq!(rt; takes::<B>(-262_144, false), Err(MakeError::OutsideLimits));
+    assert_eq!(rt; takes::<B>(-262_144, true), Err(MakeError::OutsideLimits));
     let one = B::make(1, false)?;
-    let most = power::<B>(40)?;
+    let most = doubled::<B>(1, 40)?;
     assert!(rt; below(most, B::no_limit()), "2^40 is kept");
     assert!(rt; same(most.sum(one), B::no_limit()), "2^40 + 1 is not");
-    let least = negated_power::<B>(40)?;
+    let least = doubled::<B>(-1, 40)?;
     assert!(rt; below(least, B::zero()), "-2^40 is kept");
     assert!(rt;
         same(least.sum(B::make(-1, false)?), B::no_limit()),
@@ -76,7 +62,7 @@ fn check_sums<B: Bound>(rt: &impl Abort) -> Result<(), Fail> {
 // Strict bounds, where a kind has them: 3 strict stands just below 3, and 3 strict with -3 below zero.
 #[cfg(test)]
 fn check_marks<B: Bound>(rt: &impl Abort) -> Result<(), Fail> {
-    assert!(rt; takes::<B>(262_143, true).is_none());
+    assert!(rt; takes::<B>(262_143, true).is_ok());
     let strict = B::make(3, true)?;
     assert!(rt; below(strict, B::make(3, false)?));
     assert!(rt; below(B::make(2, false)?, strict));
@@ -90,39 +76,35 @@ fn check_marks<B: Bound>(rt: &impl Abort) -> Result<(), Fail> {
 #[cfg(test)]
 mod tests {
     use super::*;
-    use bounds::Range;
+    use bounds::{MarkedBound, PlainBound, Range};
+    use compact::CompactBound;
 
     #[test]
     fn plain_edges(rt: HostRuntime) -> Result<(), Fail> {
-        check_edges::<bounds::plain::PlainBound>(&rt)?;
-        check_sums::<bounds::plain::PlainBound>(&rt)?;
-        assert!(rt;
-            matches!(
-                takes::<bounds::plain::PlainBound>(3, true),
-                Some(MakeError::MarkNotTaken)
-            )
-        );
+        check_edges::<PlainBound>(&rt)?;
+        check_sums::<PlainBound>(&rt)?;
+        assert_eq!(rt; takes::<PlainBound>(3, true), Err(MakeError::MarkNotTaken));
         Ok(())
     }
 
     #[test]
     fn marked_edges(rt: HostRuntime) -> Result<(), Fail> {
-        check_edges::<bounds::marked::MarkedBound>(&rt)?;
-        check_sums::<bounds::marked::MarkedBound>(&rt)?;
-        check_marks::<bounds::marked::MarkedBound>(&rt)
+        check_edges::<MarkedBound>(&rt)?;
+        check_sums::<MarkedBound>(&rt)?;
+        check_marks::<MarkedBound>(&rt)
     }
 
     #[test]
     fn compact_edges(rt: HostRuntime) -> Result<(), Fail> {
-        check_edges::<compact::CompactBound>(&rt)?;
-        check_sums::<compact::CompactBound>(&rt)?;
-        check_marks::<compact::CompactBound>(&rt)
+        check_edges::<CompactBound>(&rt)?;
+        check_sums::<CompactBound>(&rt)?;
+        check_marks::<CompactBound>(&rt)
     }
 
     #[test]
     fn a_range_holds_its_ends(rt: HostRuntime) -> Result<(), Fail> {
-        let upper = <bounds::plain::PlainBound as Bound>::make(6, false)?;
-        let lower = <bounds::plain::PlainBound as Bound>::make(-1, false)?;
+        let upper = PlainBound::make(6, false)?;
+        let lower = PlainBound::make(-1, false)?;
         let range = Range { upper, lower };
         assert!(rt; !range.holds(0) && range.holds(1) && range.holds(6) && !range.holds(7));
         Ok(())

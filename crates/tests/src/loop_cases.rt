@@ -1,11 +1,11 @@
 // Loops of timing constraints and what is printed of them.
-use bounds::Bound;
+use bounds::MarkedBound;
 use loops::judge;
 use std::alloc::{AllocError, Global};
 use std::test::Fail;
 
 fn printed(heap: Global, text: &str) -> Result<String, AllocError> {
-    match judge::<bounds::marked::MarkedBound>(text.as_bytes()) {
+    match judge::<MarkedBound>(text.as_bytes()) {
         Ok(verdict) => format!(in heap; "{verdict}"),
         Err(bad) => format!(in heap; "{bad}"),
     }

@@ -1,4 +1,5 @@
 // Net records made by hand, and the refusal of each: its number and its record.
+use records::fault::Refusal;
 use records::net::check_net;
 use std::alloc::{AllocError, Global};
 
@@ -37,12 +38,10 @@ const ONE_TO_0: [u8; 5] = [0, 0, 4, 0, 0]; // 15
 type Placed = (usize, [u8; 5]);
 
 fn slot_at(placed: &[Placed], number: usize) -> [u8; 5] {
-    for (at, slot) in placed {
-        if *at == number {
-            return *slot;
-        }
-    }
-    [0; 5]
+    placed
+        .iter()
+        .find(|(at, _)| *at == number)
+        .map_or([0; 5], |(_, slot)| *slot)
 }
 
 // Adds a transition whose other slots are zero.
@@ -56,10 +55,8 @@ fn add_record(bytes: &mut Vec<u8>, counts: u8, placed: &[Placed]) -> Result<(), 
 
 // The number of the refusal and of the record, if the bytes are refused.
 fn refused(bytes: &[u8]) -> Option<(u8, usize)> {
-    match check_net(bytes) {
-        Ok(_) => None,
-        Err(fault) => Some((fault.refusal.number(), fault.at)),
-    }
+    let fault = check_net(bytes).err()?;
+    Some((fault.refusal.number(), fault.at))
 }
 
 // The same for a header and so many equal records of one input each.
@@ -96,16 +93,8 @@ mod tests {
     ) -> Result<(), Fail> {
         let mut bytes = Vec::from_slice(heap, &[kind, 2, 0, 0])?;
         add_record(&mut bytes, counts, placed)?;
-        match expected {
-            Some(number) => {
-                assert_eq!(rt; refused(&bytes), Some((number, 1)));
-                Ok(())
-            },
-            None => {
-                assert_eq!(rt; refused(&bytes), None);
-                Ok(())
-            },
-        }
+        assert_eq!(rt; refused(&bytes), expected.map(|number| (number, 1)));
+        Ok(())
     }
 
     #[test]

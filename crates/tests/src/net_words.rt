@@ -5,10 +5,7 @@ use std::alloc::{AllocError, Global};
 
 fn ages_text(heap: Global, bytes: &[u8]) -> Result<String, AllocError> {
     match Slot::split(bytes) {
-        Some((slot, _)) => {
-            let ages = Ages(slot);
-            format!(in heap; "{ages}")
-        }
+        Some((slot, _)) => Ages(slot).to_string(heap),
         None => Ok(String::new(heap)),
     }
 }

@@ -1,8 +1,7 @@
 // Pages of a book, and what stands against a page's vouching.
 use crate::drafts::{draft, number};
 use crate::zone_records::*;
-use books::vouching::objection;
-use books::{Book, Page};
+use books::{Book, Claim, Item, Objection, Page};
 use bounds::{Bound, PlainBound};
 use std::test::Fail;
 
@@ -22,10 +21,16 @@ fn objected(
     pairing: &[u8],
 ) -> Option<u8> {
     let page = Page { cells, places };
-    match objection(&page, item, &[1, 0], pairing) {
-        Some(objection) => Some(objection.number()),
-        None => None,
-    }
+    let item = Item {
+        cells: item,
+        places: &[1, 0],
+    };
+    let claim = Claim {
+        page,
+        item,
+        pairing,
+    };
+    claim.check().err().map(Objection::number)
 }
 
 #[test]

@@ -1,8 +1,7 @@
 // Drafts of records made by hand, and what they hold.
 use crate::zone_records::{Listed, record};
-use bounds::{Bound, PlainBound};
+use bounds::{Bound, PlainBound, bound_of};
 use pages::draft::bound_at;
-use pages::tokens::Tokens;
 use reading::read_zone;
 use std::alloc::Global;
 use std::process::Abort;
@@ -11,10 +10,7 @@ use std::test::Fail;
 pub type Draft = [PlainBound; 169];
 
 pub fn number(n: i32) -> PlainBound {
-    match PlainBound::make(n, false) {
-        Ok(bound) => bound,
-        Err(_) => PlainBound::no_limit(),
-    }
+    bound_of(n, false)
 }
 
 // The normal form of a record under a net of three places.
@@ -27,12 +23,5 @@ pub fn draft(heap: Global, header: &[u8], listed: &[Listed]) -> Result<Draft, Fa
 pub fn check_bounds(rt: &impl Abort, cells: &[PlainBound], expected: &[(u8, u8, i32)]) {
     for (j, i, n) in expected {
         assert_eq!(rt; bound_at(cells, *j, *i), number(*n));
-    }
-}
-
-pub fn check_places(rt: &impl Abort, tokens: Tokens, expected: &[u8]) {
-    assert_eq!(rt; usize::from(tokens.count), expected.len());
-    for (place, is) in expected.iter().zip(&tokens.places) {
-        assert_eq!(rt; *is, *place);
     }
 }

@@ -4,6 +4,7 @@ use crate::zone_records::*;
 use bounds::{Bound, MarkedBound, PlainBound};
 use pages::delay::delay_predecessor;
 use reading::read_zone;
+use records::fault::Refusal;
 use std::alloc::Global;
 use std::process::Abort;
 use std::test::Fail;
@@ -15,10 +16,8 @@ const IN_3: [u8; 2] = [1, 0x0c];
 
 // The number that a net of three places refuses the bytes with.
 fn refused<B: Bound>(bytes: &[u8], cells: &mut [B]) -> Option<u8> {
-    match read_zone(bytes, 3, cells) {
-        Ok(_) => None,
-        Err(refusal) => Some(refusal.number()),
-    }
+    let refusal = read_zone(bytes, 3, cells).err()?;
+    Some(refusal.number())
 }
 
 // Checks that number under plain and under marked kind.

@@ -31,40 +31,29 @@ pub const TWO: [Listed; 6] = [
     (2, 1, 4),
 ];
 
+// The format's own count, apart from what the crate `entries` makes of it: a test by that would find its faults right.
 fn entry_number(j: u8, i: u8) -> usize {
     let column = if j < i { i - 1 } else { i };
     8 * usize::from(j) + usize::from(column)
 }
 
 fn code(listed: &[Listed], number: usize) -> u32 {
-    for (j, i, code) in listed {
-        if entry_number(*j, *i) == number {
-            return *code;
-        }
-    }
-    NO_LIMIT
+    listed
+        .iter()
+        .find(|(j, i, _)| entry_number(*j, *i) == number)
+        .map_or(NO_LIMIT, |(_, _, code)| *code)
 }
 
-fn low_byte(n: u32) -> u8 {
-    (n % 256) as u8
-}
-
-// Two bounds in five bytes.
+// Two bounds of 20 bits in five bytes.
 fn add_pair(bytes: &mut Vec<u8>, a: u32, b: u32) -> Result<(), AllocError> {
-    bytes.push(low_byte(a / 4096))?;
-    bytes.push(low_byte(a / 16))?;
-    bytes.push(low_byte(a % 16 * 16 + b / 65_536 % 16))?;
-    bytes.push(low_byte(b / 256))?;
-    bytes.push(low_byte(b))?;
-    Ok(())
+    let both = (u64::from(a) << 20) | u64::from(b);
+    bytes.extend_from_slice(&both.to_be_bytes()[3..])
 }
 
 // A record by the first bytes of its header, tokens and places; the rest of the header is zero.
 pub fn record(heap: Global, header: &[u8], listed: &[Listed]) -> Result<Vec<u8>, AllocError> {
     let mut bytes = Vec::from_slice(heap, header)?;
-    for _ in header.len()..12 {
-        bytes.push(0)?;
-    }
+    bytes.resize(12, 0)?;
     for pair in 0..36 {
         let first = code(listed, 2 * pair);
         add_pair(&mut bytes, first, code(listed, 2 * pair + 1))?;

@@ -1,7 +1,6 @@
 -- Matchings by their digits: a number is a matching where each digit fits, and the next one raises a single digit. Assumes nothing.
 use Rattle.std.proofs.Common.{◌≡◌, ℕ, zero, suc, ◌+◌, ◌-◌, ◌*◌, ◌/◌, ◌^◌, ◌<◌, ◌≤◌, min, Bool, true, false, not, ◌&&◌, ◌||◌, eqb, ◌⊎◌, List, [], ◌∷◌, ◌++◌, map, length, get_or, take, drop, sym, refl, ap, ◌∙◌, subst, ap₂, inl, inr, arith}
-use Rattle.std.proofs.lemmas.Bool.{eq-eqb, ne_eqb, false≢true, and_parts, and_from, and_left, and_right, or_left, cases_lt, cases_order}
-use Rattle.std.proofs.lemmas.List.{at_drop_more, drop_all}
+use Rattle.std.proofs.lemmas.Bool.{eq-eqb, ne_eqb, false≢true, and_parts, and_from, and_left, and_right, cases_lt, cases_order}
 use Rattle.std.proofs.lemmas.Bool.Decides.{nat_tests}
 use Rattle.bounds.specs.Kinds.{Kind}
 use Rattle.nets.specs.Nets.{Arc, Net, arcs_of}
@@ -293,14 +292,3 @@ packs places arcs matching few_arcs few_places m =
     let digits : digits_of arcs (packed matching) ≡ matching = ap₂ (λ k ds. take k ds) (sym each) said.1 ∙ parts.0 in
     let zeros : all_zero (drop (length arcs) (fields (packed matching))) ≡ true = ap₂ (λ k ds. all_zero (drop k ds)) (sym each) said.1 ∙ parts.1 in
     (packed matching, said.0, digits, and_from _ _ (ap (λ ds. matches places arcs ds) digits ∙ m) zeros)
-
--- ---- a token looked for among digits, from a place on
-pub among_found : (token : ℕ) (ds : List ℕ) (i : ℕ) → i < length ds → token ≡ get_or ds i 0 → among token (drop i ds) ≡ true
-among_found token ds i h e = at_drop_more (among token) ds i 0 h ∙ or_left _ _ (eq-eqb token (get_or ds i 0) e)
-
-pub among_passed : (token : ℕ) (ds : List ℕ) (i : ℕ) → i < length ds → (token ≡ get_or ds i 0 → ⊥) → among token (drop i ds) ≡ among token (drop (i + 1) ds)
-among_passed token ds i h n =
-    at_drop_more (among token) ds i 0 h ∙ ap (λ t. t || among token (drop (i + 1) ds)) (ne_eqb token (get_or ds i 0) n)
-
-pub among_end : (token : ℕ) (ds : List ℕ) (i : ℕ) → length ds ≤ i → among token (drop i ds) ≡ false
-among_end token ds i h = ap (among token) (drop_all i ds h)

@@ -1,4 +1,5 @@
-// Zones, their predecessors and vouching: the rules, and why they make a certificate sound. Theory alone, on contracts of functions that do nothing.
+// Zones, their predecessors and vouching: the rules, and why they make a certificate sound.
+// Theory alone, on contracts of functions that do nothing.
 #![tactic(auto)]
 
 pub mod laws;

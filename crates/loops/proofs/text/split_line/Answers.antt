@@ -1,28 +1,24 @@
-use Rattle.std.proofs.Common.{length, take, sym, ap, ◌∙◌, arith}
-use native.Mathlib.Nat.{sub-zero}
-use Rattle.std.proofs.lemmas.List.{take_rest, drop_all}
-use Rattle.loops.proofs.Scans.{scanned_none, scanned_more, line_found, line_all}
+use Rattle.std.proofs.Common.{rules, tests, sym, ◌∙◌}
+use Rattle.std.proofs.lemmas.List.{take_rest}
+use Rattle.std.proofs.lemmas.Iterator.{YieldsList-from_slice}
+use Rattle.std.proofs.lemmas.Iterator.Search.{position_from_yields_List}
+use Rattle.loops.proofs.Scans.{feed, Feeds, line_found, line_all}
 use Rattle.loops.proofs.text.split_line.Goals as goal
+use Rattle.loops.proofs.text.split_line.Goals.{After-position}
 
-pub loop-i-init : goal.loop-i-init
-loop-i-init c = scanned_none c.args.text.now
+feeds : (c : After-position) → Feeds c.args.text.now c.position.result
+feeds c = position_from_yields_List feed _ _ c.position.result c.position.ensures.ran (YieldsList-from_slice c.args.text.now cc) (λ x b q k. search (rules, tests))
 
-pub loop-i-preserved : goal.loop-i-preserved
-loop-i-preserved c = scanned_more c.args.text.now c.loop-i.i c.loop-i-test.true c.loop-i.invariant c.if-b-eq10.false
+pub returns-in-Some-clause-line : goal.returns-in-Some-clause-line
+returns-in-Some-clause-line c = sym (line_found c.args.text.now c.in-Some.i (sym c.in-Some.is ∙ feeds (goal.at.returns-in-Some-clause-line c).After-position)).0
 
-pub returns-then-b-eq10 : goal.returns-then-b-eq10
-returns-then-b-eq10 c =
-    let found = line_found c.args.text.now c.loop-i.i c.loop-i-test.true c.loop-i.invariant c.if-b-eq10.true in
-    record {
-      line = ap (λ n. take n c.args.text.now) (sub-zero c.loop-i.i) ∙ sym found.0;
-      rest = take_rest c.args.text.now _ ∙ sym found.1;
-    }
+pub returns-in-Some-clause-rest : goal.returns-in-Some-clause-rest
+returns-in-Some-clause-rest c =
+    take_rest c.args.text.now _
+    ∙ sym (line_found c.args.text.now c.in-Some.i (sym c.in-Some.is ∙ feeds (goal.at.returns-in-Some-clause-rest c).After-position)).1
 
-pub returns : goal.returns
-returns c =
-    let all = line_all c.args.text.now c.loop-i.i c.loop-i-test.false c.loop-i.invariant in
-    let text = c.args.text.now in
-    record {
-      line = sym all.0;
-      rest = take_rest text (length text) ∙ drop_all (length text) text (omega arith) ∙ sym all.1;
-    }
+pub returns-in-None-clause-line : goal.returns-in-None-clause-line
+returns-in-None-clause-line c = sym (line_all c.args.text.now (sym c.in-None.is ∙ feeds (goal.at.returns-in-None-clause-line c).After-position)).0
+
+pub returns-in-None-clause-rest : goal.returns-in-None-clause-rest
+returns-in-None-clause-rest c = sym (line_all c.args.text.now (sym c.in-None.is ∙ feeds (goal.at.returns-in-None-clause-rest c).After-position)).1

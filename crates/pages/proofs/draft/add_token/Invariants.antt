@@ -3,4 +3,4 @@ use Rattle.cells.specs.Cells.{times, linked}
 use Rattle.pages.proofs.draft.add_token.Given as goal
 
 abbrev pub invariant-loop-i : goal.invariant-loop-i
-invariant-loop-i g l = l.cells ≡ times l.i (λ i c. linked g.B.Bound.kind l.range l.n i c) l.initial.cells
+invariant-loop-i g l = l.cells ≡ times l.i (λ i c. linked g.B.Bound.kind l.fn.range l.n i c) l.initial.cells

@@ -1,15 +1,17 @@
-use Rattle.std.proofs.Common.{◌≡◌, false, eqb, sym, refl, ap, ◌∙◌, arith}
-use Rattle.std.proofs.lemmas.Bool.{cond-false, ne_eqb}
+use Rattle.std.proofs.Common.{ℕ, ◌-◌, refl, ap, ◌∙◌, rules}
+use borrow.Author.Tests.{tests}
+use Rattle.std.proofs.lemmas.Iterator.{YieldsList-from_range}
+use Rattle.std.proofs.lemmas.Iterator.Consumers.{fold_from_yields_List}
+use Rattle.std.specs.List.{fold, range_with_len}
+use Rattle.cells.specs.Cells.{in_draft}
 use Rattle.walks.specs.Walks.{lesser}
-use Rattle.pages.proofs.Steps.{one_more, from_one}
+use Rattle.pages.proofs.Steps.{fold_from_one}
 use Rattle.pages.proofs.draft.column_least.Goals as goal
-
-pub loop-j-preserved : goal.loop-j-preserved
-loop-j-preserved g c =
-    let less = c.lesser-least.ensures ∙ ap (λ b. lesser g.B.Bound.kind b c.loop-j.least) c.bound_at.ensures in
-    let here : eqb c.loop-j.j 0 ≡ false = ne_eqb c.loop-j.j 0 (λ e. omega (arith, e, c.loop-j.auto.j)) in
-    (λ e. absurd (omega (arith, e, c.loop-j-test.true)), one_more c.loop-j.j _ _ c.loop-j.least _ c.loop-j.invariant.1 (less ∙ sym (cond-false _ _ _ here)))
 
 pub returns : goal.returns
 returns g c =
-    from_one c.args.points c.loop-j.j _ _ c.loop-j.least c.loop-j.auto.j c.loop-j-test.false c.loop-j.auto.j-end c.loop-j.invariant.0 refl c.loop-j.invariant.1
+    let kind = g.B.Bound.kind in
+    let least : g.row.B.Denot → ℕ → g.row.B.Denot = λ b j. lesser kind (in_draft kind c.args.cells.now j c.args.i) b in
+    fold_from_yields_List _ least _ c.fold.result c.fold.ensures.ran (YieldsList-from_range 1 c.args.points _ refl refl) (λ a x b q k. search (rules, tests))
+    ∙ ap (λ z. fold least z (range_with_len 1 (c.args.points - 1))) c.zero.ensures
+    ∙ fold_from_one (λ j b. least b j) kind.zero c.args.points

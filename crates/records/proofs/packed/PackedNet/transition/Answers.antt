@@ -1,19 +1,25 @@
-use Rattle.std.proofs.Common.{◌≡◌, ℕ, ◌+◌, ◌-◌, ◌*◌, take, drop, sym, ap, ◌∙◌, arith}
-use Rattle.records.proofs.Clean.{transition_whole}
+use Rattle.std.proofs.Common.{◌≡◌, ◌+◌, ◌-◌, ◌*◌, true, length, take, drop, ap, ◌∙◌, arith, rules, tests}
+use Rattle.std.proofs.lemmas.List.{take_rest}
+use Rattle.records.specs.NetBytes.{has_transition}
+use Rattle.records.proofs.Clean.{transition_whole, transition_part}
 use Rattle.records.proofs.packed.PackedNet.transition.Goals as goal
 
-span : (n : ℕ) → n + 41 - n ≡ 41
-span n = omega arith
+pub slice_bounds-first_chunk-start : goal.slice_bounds-first_chunk-start
+slice_bounds-first_chunk-start c =
+    let net = c.args.self.now in
+    let there : has_transition net.bytes.now c.args.number ≡ true = search (rules, tests) in
+    omega (arith, c.from.ensures, transition_whole net.bytes.now net.tested c.args.number there)
 
-pub slice_bounds-result-end : goal.slice_bounds-result-end
-slice_bounds-result-end c =
-    let bytes = c.args.self.now.bytes.now in
-    omega (arith, c.from.ensures, transition_whole bytes c.args.self.now.tested c.args.number (sym c.if-not-has_transition.ensures))
+pub slice_bounds-first_chunk-count : goal.slice_bounds-first_chunk-count
+slice_bounds-first_chunk-count c =
+    let net = c.args.self.now in
+    let there : has_transition net.bytes.now c.args.number ≡ true = search (rules, tests) in
+    omega (arith, c.from.ensures, transition_whole net.bytes.now net.tested c.args.number there)
 
 pub returns : goal.returns
 returns c =
-    let bytes = c.args.self.now.bytes.now in
-    let start = 4 + 41 * (c.from.result - 1) in (
-      sym c.if-not-has_transition.ensures,
-      ap (λ n. take n (drop start bytes)) (span start) ∙ ap (λ n. take 41 (drop (4 + 41 * (n - 1)) bytes)) c.from.ensures,
-    )
+    let net = c.args.self.now in
+    let there : has_transition net.bytes.now c.args.number ≡ true = search (rules, tests) in
+    let start = 4 + 41 * (c.from.result - 1) in
+    let part : take (length net.bytes.now - start) (drop start net.bytes.now) ≡ drop (4 + 41 * (c.args.number - 1)) net.bytes.now = take_rest net.bytes.now start ∙ ap (λ n. drop (4 + 41 * (n - 1)) net.bytes.now) c.from.ensures in
+    transition_part net.bytes.now net.tested c.args.number there _ c.first_chunk.result (λ y q. search rules) part c.first_chunk.ensures.cases

@@ -1,0 +1,68 @@
+-- When the range between two ends keeps the limits of a net. Assumes nothing.
+use Rattle.std.proofs.Common.{◌≡◌, ℕ, ◌≤◌, Bool, true, false, ◌&&◌, ◌||◌, leb, ℤ, pos, ◌+ℤ◌, neg_ℤ, nat_abs, sym, refl, ap, ◌∙◌, inl, inr, arith}
+use borrow.Author.Differences.{ints}
+use lib.Signed.{le_z}
+use Rattle.std.proofs.lemmas.Bool.{false≢true, le-leb, and_parts, cond-true}
+use Rattle.bounds.specs.Kinds.{Kind, Named, largest_size, place}
+use Rattle.nets.specs.Nets.{largest_end, Ended, RangeLimits}
+
+-- fewer marks only raise a sum
+raised : (d : ℤ) (s t m : Bool) → le_z (place (pos 0) false) (place d (s || t)) ≡ true → le_z (place (pos 0) false) (place d ((s && m) || (t && m))) ≡ true
+raised d true true true h = h
+raised d true true false h = sym (omega (arith, ints))
+raised d true false true h = h
+raised d true false false h = sym (omega (arith, ints))
+raised d false true true h = h
+raised d false true false h = sym (omega (arith, ints))
+raised d false false m h = h
+
+either_mark : (s t m : Bool) → ((s && m) || (t && m)) ≡ true → m ≡ true
+either_mark s t true e = refl
+either_mark true true false e = e
+either_mark true false false e = e
+either_mark false true false e = e
+either_mark false false false e = e
+
+-- the difference of two ends, from l to u
+abbrev pub difference : ℕ → ℕ → ℤ
+difference l u = pos u +ℤ neg_ℤ (pos l)
+
+pub small_difference : (l u : ℕ) → l ≤ largest_end → u ≤ largest_end → nat_abs (difference l u) ≤ largest_size
+small_difference l u low_small high_small = omega (arith, ints)
+
+module _ {B : Type 0} (kind : Kind B) where
+  takes : (s : Bool) → (s && kind.marks) ≡ true → kind.marks ≡ true
+  takes s e = (and_parts s kind.marks e).1
+
+  named : (c : ℤ) (s : Bool) → nat_abs c ≤ largest_size → Named kind.marks c (s && kind.marks)
+  named c s small = record { small = small; takes = takes s }
+
+  module _ (l : ℕ) (s : Bool) (low_small : l ≤ largest_end) where
+    low_end : Ended kind (λ n. neg_ℤ (pos n)) (kind.number (neg_ℤ (pos l)) (s && kind.marks))
+    low_end = record { end = l; strict = s && kind.marks; small = low_small; takes = takes s; is = refl }
+
+    -- without limit above
+    pub open_range : RangeLimits kind (record { upper = kind.no_limit; lower = kind.number (neg_ℤ (pos l)) (s && kind.marks) })
+    open_range =
+        record {
+          lower = low_end;
+          upper = inl refl;
+          sum = ap (kind.at_most kind.zero) (kind.absorbs (kind.number (neg_ℤ (pos l)) (s && kind.marks))) ∙ kind.top kind.zero;
+        }
+
+    -- up to u, where the marked ends do not sum below zero
+    pub closed_range : (u : ℕ) (t : Bool) → u ≤ largest_end → le_z (place (pos 0) false) (place (difference l u) (t || s)) ≡ true → RangeLimits kind (record { upper = kind.number (pos u) (t && kind.marks); lower = kind.number (neg_ℤ (pos l)) (s && kind.marks) })
+    closed_range u t high_small h =
+        let m = kind.marks in
+        let d = difference l u in
+        let mark = (t && m) || (s && m) in
+        let within = small_difference l u low_small high_small in
+        let sum = kind.numbers_sum (pos u) (neg_ℤ (pos l)) (t && m) (s && m) (named (pos u) t (omega (arith, ints))) (named (neg_ℤ (pos l)) s (omega (arith, ints))) in
+        let kept = cond-true (leb (nat_abs d) largest_size) (kind.number d mark) kind.no_limit (le-leb (nat_abs d) largest_size within) in
+        let from : Named m (pos 0) false = record { small = omega (arith, ints); takes = λ e. absurd (false≢true e) } in
+        let order = kind.numbers_order (pos 0) d false mark from (record { small = within; takes = either_mark t s m }) in
+        record {
+          lower = low_end;
+          upper = inr (record { end = u; strict = t && m; small = high_small; takes = takes t; is = refl });
+          sum = ap (kind.at_most kind.zero) (sum ∙ kept) ∙ ap (λ z. kind.at_most z (kind.number d mark)) (sym kind.number_zero) ∙ order ∙ raised d t s m h;
+        }

@@ -1,5 +1,5 @@
 -- The number and the text of each refusal of a record after the net. Assumes nothing.
-use Rattle.std.specs.Prelude.{ℕ, List, codes, Some, None, Option, Ok, Err, Result}
+use Rattle.std.specs.Prelude.{ℕ, List, codes}
 use Rattle.records.specs.Refusals.{located}
 use Rattle.records.specs.declared.fault.Fault.{Fault}
 use Rattle.entries.specs.declared.fault.EntryRefusal.{EntryRefusal}
@@ -20,11 +20,6 @@ entry_text TooMany = codes "more than 8 tokens"
 entry_text NoSuchPlace = codes "a place is not in the net"
 entry_text MarkUnderPlain = codes "a strict mark under plain kind"
 entry_text Inconsistent = codes "no marking satisfies the zone"
-
--- what a test answers: the first refusal, if any
-abbrev pub tested : Option EntryRefusal → Result Unit EntryRefusal
-tested None = Ok tt
-tested (Some refusal) = Err refusal
 
 abbrev pub EntryFault : Type 0
 EntryFault = Fault EntryRefusal

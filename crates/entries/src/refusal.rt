@@ -1,6 +1,6 @@
 // The tests of a zone record, in ascending number.
-ghost use Rattle.entries.specs.Refusals.{tested};
 ghost use Rattle.entries.specs.ZoneRecords.{is_present, marked_bound, not_zero, place_missing, some_bound, some_in_row, some_token, spare_set, unclean_bound, unclean_entry, unused_place, zone_fault};
+ghost use Rattle.records.specs.NetRecords.{tested};
 ghost use Rattle.std.specs.Prelude.{◌≡◌, ℕ, Bool};
 
 use crate::bits::bits;
@@ -106,7 +106,7 @@ impl<'a> ZoneRecord<'a> {
 
     // Tests the record under a net of so many places, lowest number first.
     pub fn check<B: Bound>(&self, places: u8) -> Result<(), EntryRefusal>
-        ensures { result ≡ tested (zone_fault B.Bound.kind.marks places self.now.bytes.now) }
+        ensures { result ≡ tested tt (zone_fault B.Bound.kind.marks places self.now.bytes.now) }
     {
         if self.bytes.len() != ZONE_SIZE {
             return Err(EntryRefusal::WrongLength);

@@ -1,5 +1,6 @@
 // The tokens of a zone under work, and the points of it that a matching parts.
-ghost use Rattle.std.specs.Prelude.{◌≡◌, ◌≤◌, ◌∷◌, map, length};
+ghost use Rattle.arrayvec.specs.ArrayVec.{array_vec_len};
+ghost use Rattle.std.specs.Prelude.{[], ◌++◌, ◌<◌, ◌≡◌, ◌≤◌, ◌∷◌, map, length};
 ghost use Rattle.cells.specs.Sifted.{sifted};
 ghost use Rattle.nets.specs.Nets.{numbered};
 
@@ -12,6 +13,16 @@ pub const MOST_TOKENS: usize = 8;
 
 // The place of each token of a zone, in fixed memory.
 pub type Tokens = ArrayVec<u8, 12>;
+
+// One token more, in this place; a thirteenth is dropped.
+pub fn with(tokens: Tokens, place: u8) -> Tokens
+    ensures room { array_vec_len tokens < 12 → result.items ≡ tokens.items ++ place ∷ [] }
+    ensures full { array_vec_len tokens ≡ 12 → result.items ≡ tokens.items }
+{
+    let mut tokens = tokens;
+    let _ = tokens.try_push(place);
+    tokens
+}
 
 // The tokens with these numbers. Pushed one by one, here and below: `collect` wants an allocator, and `extend` answers an
 // AllocError that cannot come.

@@ -5,3 +5,6 @@
 pub mod laws;
 
 pub use laws::{certificates_are_sound, zones_keep_laws};
+
+// A listed zone has at most so many tokens; a predecessor has up to 12.
+pub const MOST_TOKENS: u8 = 8;

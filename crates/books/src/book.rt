@@ -1,7 +1,7 @@
 // The zone book: pages of 81 cells, (j,i) of a page at 9 j + i, with eight places each.
 ghost use Rattle.std.specs.Prelude.{◌≡◌, ◌≤◌};
 ghost use Rattle.books.specs.Books.{Opened, PartOf, page_points};
-ghost use Rattle.cells.specs.Cells.{in_page, loaded};
+ghost use Rattle.cells.specs.Cells.{in_page, written};
 
 use bounds::Bound;
 use pages::draft::cell;
@@ -61,7 +61,7 @@ impl<'a, 'b, B: Bound> Page<'a, 'b, B> {
 
     // Writes the zone into a draft; one of more than eight tokens is none of the book's, and is left.
     pub fn load(&self, draft: &mut [B])
-        ensures { draft.new ≡ loaded B.Bound.kind self.now.cells.now (page_points self.now.places.now) draft.old }
+        ensures { draft.new ≡ written (in_page B.Bound.kind self.now.cells.now) (page_points self.now.places.now) draft.old }
     {
         if self.places.len() <= MOST_TOKENS {
             let points = self.places.len() as u8 + 1;

@@ -38,7 +38,8 @@ impl<'a, 'b, 'c, 'd, 'e, B: Bound> Claim<'a, 'b, 'c, 'd, 'e, B> {
     fn is_taken(&self, k: usize) -> bool
         ensures { result ≡ partner_taken self.now.pairing.now k }
     {
-        (0..k).any(|i| byte(self.pairing, i) == byte(self.pairing, k))
+        let partner = byte(self.pairing, k);
+        self.pairing.iter().take(k).any(|earlier| *earlier == partner)
     }
 
     // Whether the partner of token k is no token of the item, or is taken.

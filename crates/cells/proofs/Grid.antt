@@ -5,13 +5,10 @@ use Rattle.std.proofs.lemmas.Bool.{cases_Bool, eqb-true, eq-eqb, and_from, and_p
 use Rattle.bounds.specs.Kinds.{Kind}
 use Rattle.bounds.specs.declared.range.Range.{Range}
 use Rattle.nets.specs.Nets.{Arc}
-use Rattle.walks.specs.Walks.{lesser}
-use Rattle.cells.specs.Cells.{times, in_draft, in_page, put, lowered, loaded_row, loaded, relaxed_row, relaxed_cells, narrowed_cells, moved_row, picked_cells, linked, added_cells, column_least, delayed_cells, arc_at, matched_cells, input_cells}
+use Rattle.walks.specs.Walks.{Matrix, lesser}
+use Rattle.cells.specs.Cells.{times, in_draft, put, lowered, written, relaxed_row, relaxed_cells, narrowed_cells, moved_row, picked_cells, linked, added_cells, column_least, delayed_cells, arc_at, matched_cells, input_cells}
 
 -- ---- places of cells
-pub inside_draft : (j i : ℕ) → j < 13 → i < 13 → 13 * j + i < 169
-inside_draft j i p q = omega arith
-
 pub same_row : (j i a b : ℕ) → i < 13 → b < 13 → 13 * j + i ≡ 13 * a + b → j ≡ a
 same_row j i a b p q e = omega arith
 
@@ -35,15 +32,16 @@ pub times_first : {X : Type 0} (step : ℕ → X → X) (n : ℕ) (x : X) → ti
 times_first step zero x = refl
 times_first step (suc n) x = ap (step (suc n)) (times_first step n x)
 
--- two kinds of steps that do the same
-pub times_same : {X : Type 0} (step other : ℕ → X → X) (n : ℕ) (x : X) → ((i : ℕ) (y : X) → i < n → step i y ≡ other i y) → times n step x ≡ times n other x
-times_same step other zero x same = refl
-times_same step other (suc n) x same = ap (step n) (times_same step other n x (λ i y l. same i y (omega arith))) ∙ same n (times n other x) (omega arith)
-
 -- ---- one cell
 module _ {B : Type 0} where
   pub length-put : (j i : ℕ) (v : B) (cells : List B) → length (put j i v cells) ≡ length cells
   length-put j i v cells = length-set cells (13 * j + i) v
+
+  pub length-written : (bounds : Matrix B) (points : ℕ) (cells : List B) → length (written bounds points cells) ≡ length cells
+  length-written bounds points cells =
+      times_keeps (λ j c. times points (λ i d. put j i (bounds j i) d) c) (λ c. length c ≡ length cells) points cells
+      (λ j c _ h. times_keeps (λ i d. put j i (bounds j i) d) (λ d. length d ≡ length cells) points c (λ i d _ g. length-put j i (bounds j i) d ∙ g) h)
+      refl
 
 module _ {B : Type 0} (kind : Kind B) where
   pub put_same : (j i : ℕ) (v : B) (cells : List B) → length cells ≡ 169 → j < 13 → i < 13 → in_draft kind (put j i v cells) j i ≡ v
@@ -57,17 +55,6 @@ module _ {B : Type 0} (kind : Kind B) where
 
   pub put_other_column : (j i : ℕ) (v : B) (cells : List B) (a b : ℕ) → i < 13 → b < 13 → (b ≡ i → ⊥) → in_draft kind (put j i v cells) a b ≡ in_draft kind cells a b
   put_other_column j i v cells a b q s other = put_other j i v cells a b q s (λ e f. other f)
-
-  pub put_at : (j i : ℕ) (v : B) (cells : List B) (a b : ℕ) → length cells ≡ 169 → j < 13 → i < 13 → a < 13 → b < 13 → in_draft kind (put j i v cells) a b ≡ cond (eqb a j && eqb b i) v (in_draft kind cells a b)
-  put_at j i v cells a b full p q r s =
-      ⊎_elim
-      (λ t.
-      let h = and_parts (eqb a j) (eqb b i) t in
-      let e : a ≡ j = eqb-true a j h.0 in
-      let f : b ≡ i = eqb-true b i h.1 in
-      rw (t, e, f) (put_same j i v cells full p q))
-      (λ t. rw t (put_other j i v cells a b q s (λ e f. false≢true (sym t ∙ and_from (eqb a j) (eqb b i) (eq-eqb a j e) (eq-eqb b i f)))))
-      (cases_Bool (eqb a j && eqb b i))
 
   pub lowered_at : (j i : ℕ) (v : B) (cells : List B) (a b : ℕ) → length cells ≡ 169 → j < 13 → i < 13 → a < 13 → b < 13 → in_draft kind (lowered kind j i v cells) a b ≡ cond (eqb a j && eqb b i) (lesser kind (in_draft kind cells a b) v) (in_draft kind cells a b)
   lowered_at j i v cells a b full p q r s =
@@ -83,12 +70,6 @@ module _ {B : Type 0} (kind : Kind B) where
   -- ---- how many cells there are
   pub length-lowered : (j i : ℕ) (v : B) (cells : List B) → length (lowered kind j i v cells) ≡ length cells
   length-lowered j i v cells = length-put j i (lesser kind (in_draft kind cells j i) v) cells
-
-  pub length-loaded_row : (page : List B) (points j : ℕ) (cells : List B) → length (loaded_row kind page points j cells) ≡ length cells
-  length-loaded_row page points j cells = times_keeps (λ i c. put j i (in_page kind page j i) c) (λ c. length c ≡ length cells) points cells (λ i c l h. length-put j i (in_page kind page j i) c ∙ h) refl
-
-  pub length-loaded : (page : List B) (points : ℕ) (cells : List B) → length (loaded kind page points cells) ≡ length cells
-  length-loaded page points cells = times_keeps (λ j c. loaded_row kind page points j c) (λ c. length c ≡ length cells) points cells (λ j c l h. length-loaded_row page points j c ∙ h) refl
 
   pub length-relaxed_row : (points pivot j : ℕ) (cells : List B) → length (relaxed_row kind points pivot j cells) ≡ length cells
   length-relaxed_row points pivot j cells = times_keeps (λ i c. lowered kind j i (kind.sum (in_draft kind cells j pivot) (in_draft kind c pivot i)) c) (λ c. length c ≡ length cells) points cells (λ i c l h. length-lowered j i (kind.sum (in_draft kind cells j pivot) (in_draft kind c pivot i)) c ∙ h) refl

@@ -11,12 +11,12 @@ use Rattle.walks.proofs.Closed.{Same}
 use Rattle.walks.proofs.NormalForms.{same_back, same_from, same_negative, same_sized, same_still, normal_sized}
 use Rattle.zones.specs.Predecessors.{among}
 use Rattle.zones.specs.Zones.{Zone, SizedZone, points}
-use Rattle.cells.specs.Cells.{in_draft, put}
+use Rattle.cells.specs.Cells.{times, in_draft, put, written}
 use Rattle.cells.specs.Drafts.{Workable, most_tokens}
-use Rattle.cells.specs.Loading.{filled_row, filled, nine_points, FormedOr}
+use Rattle.cells.specs.Loading.{nine_points, FormedOr}
 use Rattle.cells.specs.Settling.{Ready, Consistent, Settles}
 use Rattle.cells.proofs.Fills.{row_filled, grid_filled}
-use Rattle.cells.proofs.Grid.{times_keeps, length-put}
+use Rattle.cells.proofs.Grid.{length-written}
 
 -- ---- every point as a pivot
 pub counting_among : (a n v : ℕ) → a ≤ v → v < a + n → among v (range_with_len a n) ≡ true
@@ -41,42 +41,36 @@ points_first n few = take_counting 0 9 n few
 
 module _ {B : Type 0} (kind : Kind B) where
   -- ---- the cells written
-  pub length-filled_row : (d : Matrix B) (n j : ℕ) (cells : List B) → length (filled_row kind d n j cells) ≡ length cells
-  length-filled_row d n j cells = times_keeps (λ i c. put j i (counted kind d j i) c) (λ c. length c ≡ length cells) n cells (λ i c l h. length-put j i (counted kind d j i) c ∙ h) refl
-
-  pub length-filled : (d : Matrix B) (n : ℕ) (cells : List B) → length (filled kind d n cells) ≡ length cells
-  length-filled d n cells = times_keeps (λ j c. filled_row kind d n j c) (λ c. length c ≡ length cells) n cells (λ j c l h. length-filled_row d n j c ∙ h) refl
-
   module _ (d : Matrix B) (n : ℕ) (cells : List B) (full : length cells ≡ 169) (few : n ≤ most_points) where
-    pub filled_is : Same n (in_draft kind (filled kind d n cells)) (counted kind d)
-    filled_is =
-        (grid_filled kind n (counted kind d) (λ j c. filled_row kind d n j c) cells full few
+    pub written_is : Same n (in_draft kind (written (counted kind d) n cells)) (counted kind d)
+    written_is =
+        (grid_filled kind n (counted kind d) (λ j c. times n (λ i e. put j i (counted kind d j i) e) c) cells full few
         (λ j c l g. row_filled kind j n (counted kind d j) (λ i _. counted kind d j i) c g.long (omega arith) few (λ i _ _ _. refl))
         ).done
 
-    filled_back : Same n (counted kind d) (in_draft kind (filled kind d n cells))
-    filled_back = same_back kind n (in_draft kind (filled kind d n cells)) (counted kind d) filled_is
+    written_back : Same n (counted kind d) (in_draft kind (written (counted kind d) n cells))
+    written_back = same_back kind n (in_draft kind (written (counted kind d) n cells)) (counted kind d) written_is
 
-    pub filled_ready : (s : ℕ) → s ≤ largest_entry → Sized kind n s d → Ready kind n (range_with_len 0 n) (filled kind d n cells)
-    filled_ready s small sized =
+    pub written_ready : (s : ℕ) → s ≤ largest_entry → Sized kind n s d → Ready kind n (range_with_len 0 n) (written (counted kind d) n cells)
+    written_ready s small sized =
         record {
-          full = length-filled d n cells ∙ full;
+          full = length-written (counted kind d) n cells ∙ full;
           few = few;
           rounds = omega (arith, length-range_with_len 0 n);
           inside = counting_inside 0 n n (omega arith);
-          still = same_still kind n (counted kind d) (in_draft kind (filled kind d n cells)) filled_back (counted_still kind n d);
-          sized = λ j i p q. let least = same_sized kind n s (counted kind d) (in_draft kind (filled kind d n cells)) filled_back (counted_sized kind n s d sized) j i p q in omega (arith, least, small);
+          still = same_still kind n (counted kind d) (in_draft kind (written (counted kind d) n cells)) written_back (counted_still kind n d);
+          sized = λ j i p q. let least = same_sized kind n s (counted kind d) (in_draft kind (written (counted kind d) n cells)) written_back (counted_sized kind n s d sized) j i p q in omega (arith, least, small);
           settled = λ v l. inl (counting_among 0 n v (omega arith) (omega arith));
         }
 
-    pub filled_negative : Negative kind n (in_draft kind (filled kind d n cells)) → Negative kind n (counted kind d)
-    filled_negative = same_negative kind n (in_draft kind (filled kind d n cells)) (counted kind d) filled_is
+    pub written_negative : Negative kind n (in_draft kind (written (counted kind d) n cells)) → Negative kind n (counted kind d)
+    written_negative = same_negative kind n (in_draft kind (written (counted kind d) n cells)) (counted kind d) written_is
 
-    pub filled_consistent : (y : Matrix B) → Consistent kind n (in_draft kind (filled kind d n cells)) y → Consistent kind n (counted kind d) y
-    filled_consistent y h =
+    pub written_consistent : (y : Matrix B) → Consistent kind n (in_draft kind (written (counted kind d) n cells)) y → Consistent kind n (counted kind d) y
+    written_consistent y h =
         record {
-          normal = same_from kind n (in_draft kind (filled kind d n cells)) (counted kind d) y filled_is h.normal;
-          none = λ negative. h.none (same_negative kind n (counted kind d) (in_draft kind (filled kind d n cells)) filled_back negative);
+          normal = same_from kind n (in_draft kind (written (counted kind d) n cells)) (counted kind d) y written_is h.normal;
+          none = λ negative. h.none (same_negative kind n (counted kind d) (in_draft kind (written (counted kind d) n cells)) written_back negative);
         }
 
   -- ---- the normal form of a zone of small bounds
@@ -95,21 +89,21 @@ module _ {B : Type 0} (kind : Kind B) where
           small = λ j i p q. let here = largest j i p q in omega (arith, here, most);
         }
 
-    by_counting : (before after : List B) (answer : Bool) → length before ≡ 169 → Settles kind (points z) (range_with_len 0 (points z)) (filled kind z.bound (points z) before) after answer → FormedOr kind z after answer
+    by_counting : (before after : List B) (answer : Bool) → length before ≡ 169 → Settles kind (points z) (range_with_len 0 (points z)) (written (counted kind z.bound) (points z) before) after answer → FormedOr kind z after answer
     by_counting before after true full h =
         let enough : points z ≤ most_points = omega (arith, few) in
-        let ready = filled_ready z.bound (points z) before full enough s (omega (arith, small)) sized in
-        let consistent = filled_consistent z.bound (points z) before full enough (in_draft kind after) (h.answered ready) in
+        let ready = written_ready z.bound (points z) before full enough s (omega (arith, small)) sized in
+        let consistent = written_consistent z.bound (points z) before full enough (in_draft kind after) (h.answered ready) in
         record {
           normal = record { places = refl; bounds = consistent.normal };
           consistent = consistent.none;
-          workable = normal_workable after (h.kept ∙ length-filled z.bound (points z) before ∙ full) consistent;
+          workable = normal_workable after (h.kept ∙ length-written (counted kind z.bound) (points z) before ∙ full) consistent;
         }
     by_counting before after false full h =
         let enough : points z ≤ most_points = omega (arith, few) in
-        let ready = filled_ready z.bound (points z) before full enough s (omega (arith, small)) sized in
-        filled_negative z.bound (points z) before full enough (h.answered ready)
+        let ready = written_ready z.bound (points z) before full enough s (omega (arith, small)) sized in
+        written_negative z.bound (points z) before full enough (h.answered ready)
 
-    pub formed : (before after : List B) (answer : Bool) → length before ≡ 169 → Settles kind (points z) (take (points z) nine_points) (filled kind z.bound (points z) before) after answer → FormedOr kind z after answer
+    pub formed : (before after : List B) (answer : Bool) → length before ≡ 169 → Settles kind (points z) (take (points z) nine_points) (written (counted kind z.bound) (points z) before) after answer → FormedOr kind z after answer
     formed before after answer full h =
-        by_counting before after answer full (subst (λ pivots. Settles kind (points z) pivots (filled kind z.bound (points z) before) after answer) (points_first (points z) (omega (arith, few))) h)
+        by_counting before after answer full (subst (λ pivots. Settles kind (points z) pivots (written (counted kind z.bound) (points z) before) after answer) (points_first (points z) (omega (arith, few))) h)

@@ -1,15 +1,15 @@
 -- A pairing that lacks nothing is one by which the page's zone vouches for the item's, and the other way round. Assumes nothing.
-use Rattle.std.proofs.Common.{◌≡◌, ℕ, suc, ◌+◌, ◌<◌, Bool, true, false, not, eqb, ltb, List, [], ◌∷◌, map, length, get_or, sym, refl, ap, ◌∙◌, subst, ⊎_elim, arith}
+use Rattle.std.proofs.Common.{◌≡◌, ℕ, suc, ◌+◌, ◌<◌, Bool, true, false, not, eqb, ltb, List, [], ◌∷◌, map, length, get_or, take, sym, refl, ap, ◌∙◌, subst, ⊎_elim, arith}
 use Rattle.std.proofs.lemmas.List.Folds.{list_any_at, list_any_none}
 use Rattle.std.proofs.lemmas.List.FromFn.{length-range_with_len, get_or-range_with_len}
 use Rattle.std.specs.List.{list_any, range_with_len}
-use Rattle.std.proofs.lemmas.List.{ext_get_or, get_or-map, length-map}
+use Rattle.std.proofs.lemmas.List.{ext_get_or, get_or-map, get_or-take, length-map, length-take-le}
 use Rattle.std.proofs.lemmas.Bool.{cases_eq, or_from, or_parts, and_left, and_right, and_cases, eqb-true, eqb-false, eq-eqb, ne_eqb, ltb-false, le-ltb, not-false, not_from_true, both_ways}
 use Rattle.bounds.specs.Kinds.{Kind}
 use Rattle.nets.specs.Nets.{Every, numbered}
 use Rattle.zones.specs.Predecessors.{among}
 use Rattle.zones.specs.Vouching.{Vouches, Partner, Distinct, partner}
-use Rattle.zones.proofs.Chosen.{every_getD, distinct_apart}
+use Rattle.zones.proofs.Chosen.{every_getD, distinct_apart, getD_among}
 use Rattle.cells.specs.Cells.{in_page, in_draft}
 use Rattle.cells.specs.Drafts.{draft_zone}
 use Rattle.cells.specs.Objections.{no_partner, partner_taken, partner_unsound, partners_unsound, place_differs, places_differ, exceeds, exceeds_in_row, bound_exceeds, page_zone}
@@ -62,15 +62,20 @@ module _ (count : ℕ) (pairing : List ℕ) where
 
   distinct_partners : list_any (partner_unsound count pairing) (range_with_len 0 (length pairing)) ≡ false → Distinct pairing
   distinct_partners none =
-      distinct_from pairing (λ i k l m. eqb-false (get_or pairing i 0) (get_or pairing k 0) (none_at k i (λ a. eqb (get_or pairing a 0) (get_or pairing k 0)) l (sound_at none k m).1))
+      distinct_from pairing (λ i k l m same.
+      let earlier = take k pairing in
+      let here : get_or earlier i 0 ≡ get_or pairing i 0 = get_or-take k pairing i 0 l in
+      let long : length earlier ≡ k = length-take-le k pairing (omega (arith, m)) in
+      both_ways (among (get_or pairing k 0) earlier) (sound_at none k m).1 (ap (λ p. among p earlier) (sym (here ∙ same)) ∙ getD_among earlier i (omega (arith, long, l))))
 
   none_unsound : Every (Partner count) pairing → Distinct pairing → list_any (partner_unsound count pairing) (range_with_len 0 (length pairing)) ≡ false
   none_unsound every distinct =
       none_below (length pairing) (partner_unsound count pairing) (λ k l.
       or_from (no_partner count (get_or pairing k 0)) (partner_taken pairing k)
       (partner_back count (get_or pairing k 0) (every_getD (Partner count) pairing every k l))
-      (none_below k (λ a. eqb (get_or pairing a 0) (get_or pairing k 0)) (λ i m.
-      ne_eqb (get_or pairing i 0) (get_or pairing k 0) (distinct_apart pairing distinct i k (omega arith) l (λ e. omega arith)))))
+      (absent_from (get_or pairing k 0) (take k pairing) (λ i m same.
+      let early : i < k = omega (arith, m, length-take-le k pairing (omega (arith, l))) in
+      distinct_apart pairing distinct i k (omega (arith, early, l)) l (λ e. omega (arith, early, e)) (sym (same ∙ get_or-take k pairing i 0 early)))))
 
 -- ---- places
 module _ (page_places item_places pairing : List ℕ) where

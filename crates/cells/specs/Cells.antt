@@ -35,13 +35,6 @@ lowered kind j i b cells = put j i (lesser kind (in_draft kind cells j i) b) cel
 abbrev pub written : {B : Type 0} → Matrix B → ℕ → List B → List B
 written bounds points cells = times points (λ j c. times points (λ i d. put j i (bounds j i) d) c) cells
 
--- ---- a page's zone
-abbrev pub loaded_row : {B : Type 0} → Kind B → List B → ℕ → ℕ → List B → List B
-loaded_row kind page points j cells = times points (λ i c. put j i (in_page kind page j i) c) cells
-
-abbrev pub loaded : {B : Type 0} → Kind B → List B → ℕ → List B → List B
-loaded kind page points cells = times points (λ j c. loaded_row kind page points j c) cells
-
 -- ---- a round of the elimination: every bound, or the way through the pivot where that is less
 abbrev pub relaxed_row : {B : Type 0} → Kind B → ℕ → ℕ → ℕ → List B → List B
 relaxed_row kind points pivot j cells = times points (λ i c. lowered kind j i (kind.sum (in_draft kind cells j pivot) (in_draft kind c pivot i)) c) cells

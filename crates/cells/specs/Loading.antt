@@ -1,17 +1,8 @@
 -- A zone written into a draft and brought to normal form. Assumes nothing.
 use Rattle.std.specs.Prelude.{ℕ, Bool, true, false, List, [], ◌∷◌}
 use Rattle.bounds.specs.Kinds.{Kind}
-use Rattle.walks.specs.Walks.{Matrix, counted}
 use Rattle.zones.specs.Zones.{Zone, Inconsistent, NormalOf}
-use Rattle.cells.specs.Cells.{times, put}
 use Rattle.cells.specs.Drafts.{draft_zone, Workable}
-
--- ---- what given bounds count as, cell by cell
-abbrev pub filled_row : {B : Type 0} → Kind B → Matrix B → ℕ → ℕ → List B → List B
-filled_row kind d points j cells = times points (λ i c. put j i (counted kind d j i) c) cells
-
-abbrev pub filled : {B : Type 0} → Kind B → Matrix B → ℕ → List B → List B
-filled kind d points cells = times points (λ j c. filled_row kind d points j c) cells
 
 -- ---- every point of a listed zone as a pivot
 abbrev pub nine_points : List ℕ

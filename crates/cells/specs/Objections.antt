@@ -3,10 +3,11 @@
 --     item      the zone that it is to vouch for, in a draft
 --     pairing   for each token of the page a token of the item
 -- Assumes nothing.
-use Rattle.std.specs.Prelude.{ℕ, ◌+◌, Bool, not, ◌&&◌, ◌||◌, List, length, ◌==◌, nat_eq, nat_lt, slice_index}
+use Rattle.std.specs.Prelude.{ℕ, ◌+◌, Bool, not, ◌&&◌, ◌||◌, List, length, take, ◌==◌, nat_lt, slice_index}
 use Rattle.std.specs.List.{list_any, range_with_len}
 use Rattle.bounds.specs.Kinds.{Kind}
 use Rattle.nets.specs.Nets.{numbered}
+use Rattle.zones.specs.Predecessors.{among}
 use Rattle.zones.specs.Vouching.{partner}
 use Rattle.zones.specs.Zones.{Zone}
 use Rattle.cells.specs.Cells.{in_page, in_draft}
@@ -17,7 +18,7 @@ no_partner count p = p == 0 || nat_lt count p
 
 -- an earlier token has the same partner
 abbrev pub partner_taken : List ℕ → ℕ → Bool
-partner_taken pairing k = list_any (λ i. nat_eq (slice_index pairing i) (slice_index pairing k)) (range_with_len 0 k)
+partner_taken pairing k = among (slice_index pairing k) (take k pairing)
 
 abbrev pub partner_unsound : ℕ → List ℕ → ℕ → Bool
 partner_unsound count pairing k = no_partner count (slice_index pairing k) || partner_taken pairing k

@@ -1,21 +1,24 @@
 -- A zone record in a draft. Assumes nothing.
 use Rattle.std.proofs.Common.{◌≡◌, ℕ, ◌+◌, ◌≤◌, Bool, List, length, take, ap, ◌∙◌, subst₂, arith}
 use Rattle.bounds.specs.Kinds.{Kind}
+use Rattle.walks.specs.Walks.{counted}
 use Rattle.zones.specs.Zones.{points}
-use Rattle.cells.specs.Loading.{filled, nine_points, FormedOr}
+use Rattle.cells.specs.Cells.{written}
+use Rattle.cells.specs.Loading.{nine_points, FormedOr}
 use Rattle.cells.specs.Settling.{Settles}
-use Rattle.cells.proofs.Loading.{length-filled, formed}
+use Rattle.cells.proofs.Grid.{length-written}
+use Rattle.cells.proofs.Loading.{formed}
 use Rattle.entries.specs.ZoneRecords.{bound_at, tokens_of, zone_of}
 use Rattle.entries.proofs.Clean.{places_length}
 use Rattle.entries.proofs.Sizes.{zone_small}
 
-module _ {B : Type 0} (kind : Kind B) (bytes : List ℕ) (few : tokens_of bytes ≤ 8) (tokens : ℕ) (is : tokens ≡ tokens_of bytes) (before loaded after : List B) (loads : loaded ≡ filled kind (bound_at kind bytes) (tokens + 1) before) (answer : Bool) (settles : Settles kind (tokens + 1) (take (tokens + 1) nine_points) loaded after answer) where
+module _ {B : Type 0} (kind : Kind B) (bytes : List ℕ) (few : tokens_of bytes ≤ 8) (tokens : ℕ) (is : tokens ≡ tokens_of bytes) (before loaded after : List B) (loads : loaded ≡ written (counted kind (bound_at kind bytes)) (tokens + 1) before) (answer : Bool) (settles : Settles kind (tokens + 1) (take (tokens + 1) nine_points) loaded after answer) where
   pub record_kept : length after ≡ length before
-  record_kept = settles.kept ∙ ap length loads ∙ length-filled kind (bound_at kind bytes) (tokens + 1) before
+  record_kept = settles.kept ∙ ap length loads ∙ length-written (counted kind (bound_at kind bytes)) (tokens + 1) before
 
   pub record_formed : length before ≡ 169 → FormedOr kind (zone_of kind bytes) after answer
   record_formed full =
       let z = zone_of kind bytes in
       let n : tokens + 1 ≡ points z = omega (arith, is, places_length kind bytes few) in
       formed kind z 262143 (omega (arith, places_length kind bytes few, few)) (omega arith) (zone_small kind bytes) before after answer full
-      (subst₂ (λ m cells. Settles kind m (take m nine_points) cells after answer) n (loads ∙ ap (λ m. filled kind (bound_at kind bytes) m before) n) settles)
+      (subst₂ (λ m cells. Settles kind m (take m nine_points) cells after answer) n (loads ∙ ap (λ m. written (counted kind (bound_at kind bytes)) m before) n) settles)

@@ -113,12 +113,13 @@ pub every_numbers : (first n most : ℕ) → 1 ≤ first → first + n ≤ suc m
 every_numbers first zero most some few = tt
 every_numbers first (suc n) most some few = (record { some = some; few = omega arith }, every_numbers (suc first) n most (omega arith) (omega arith))
 
--- two places of a list without repetition hold two numbers
-getD_among : (ps : List ℕ) (j : ℕ) → j < length ps → among (get_or ps j 0) ps ≡ true
+-- what a place of a list holds is among it
+pub getD_among : (ps : List ℕ) (j : ℕ) → j < length ps → among (get_or ps j 0) ps ≡ true
 getD_among [] j h = absurd (omega arith)
 getD_among (p ∷ ps) zero h = among_first p p ps refl
 getD_among (p ∷ ps) (suc j) h = among_later (get_or ps j 0) p ps (getD_among ps j (omega arith))
 
+-- two places of a list without repetition hold two numbers
 pub distinct_apart : (ps : List ℕ) → Distinct ps → (j i : ℕ) → j < length ps → i < length ps → (j ≡ i → ⊥) → get_or ps j 0 ≡ get_or ps i 0 → ⊥
 distinct_apart [] dist j i p q apart e = omega arith
 distinct_apart (x ∷ ps) dist zero zero p q apart e = apart refl

@@ -2,12 +2,9 @@
 use Rattle.std.proofs.Common.{◌≡◌, ℕ, zero, suc, ◌+◌, ◌-◌, ◌*◌, ◌/◌, ◌^◌, ◌<◌, ◌≤◌, min, Bool, true, false, not, ◌&&◌, ◌||◌, eqb, ◌⊎◌, List, [], ◌∷◌, ◌++◌, map, length, get_or, take, drop, sym, refl, ap, ◌∙◌, subst, ap₂, inl, inr, arith}
 use Rattle.std.proofs.lemmas.Bool.{eq-eqb, ne_eqb, false≢true, and_parts, and_from, and_left, and_right, cases_lt, cases_order}
 use Rattle.std.proofs.lemmas.Bool.Decides.{nat_tests}
-use Rattle.bounds.specs.Kinds.{Kind}
-use Rattle.nets.specs.Nets.{Arc, Net, arcs_of}
-use Rattle.nets.specs.declared.side.Side.TheVariants.{Output}
+use Rattle.nets.specs.Nets.{Arc}
 use Rattle.zones.specs.Predecessors.{among, stands, matches, fields, all_zero, digits_of, is_matching}
-use Rattle.zones.specs.Digits.{four_places, fits, all_fit, Fitting, raised}
-use Rattle.zones.proofs.Arcs.{places_listed}
+use Rattle.zones.specs.Digits.{fits, all_fit, Fitting, raised}
 
 -- ---- tests
 and_false : (x : Bool) → (x && false) ≡ false
@@ -99,12 +96,6 @@ all_fit_matching places arcs n few =
     ∙ walk-matches places [] arcs (fields n)
     ∙ ap (λ t. is_matching places arcs n && t) (apart_none (digits_of arcs n))
     ∙ and_true (is_matching places arcs n)
-
--- the same, with the places as they are read from a store
-pub fit_is_matching : {B : Type 0} (kind : Kind B) (net : Net B) (t : ℕ) (places slots : List ℕ) (count : ℕ) → count ≡ length (arcs_of net t Output) → count ≤ 4 → slots ≡ four_places kind net t → (n : ℕ) → all_fit (take count slots) places [] (fields n) ≡ is_matching places (arcs_of net t Output) n
-fit_is_matching kind net t places slots count is few read n =
-    let short : length (arcs_of net t Output) ≤ 4 = omega arith in
-    ap (λ arcs. all_fit arcs places [] (fields n)) (ap₂ take is read ∙ places_listed kind net t short) ∙ all_fit_matching places (arcs_of net t Output) n short
 
 -- ---- the next number whose digits fit
 -- a number without its digits from a position on
@@ -238,14 +229,6 @@ module _ (arcs places : List ℕ) where
 -- ---- a matching as a number
 matching_small : {B : Type 0} (places : List ℕ) (a : Arc B) (d : ℕ) (r : Bool) → length places ≤ 15 → (eqb d 0 || (stands places d a.place && not r)) ≡ true → d < 16
 matching_small places a d r few h = grind (arith, nat_tests)
-
-pub zero_matches : {B : Type 0} (places : List ℕ) (arcs : List (Arc B)) → length arcs ≤ 4 → is_matching places arcs 0 ≡ true
-zero_matches places [] few = refl
-zero_matches places (p ∷ []) few = refl
-zero_matches places (p ∷ q ∷ []) few = refl
-zero_matches places (p ∷ q ∷ r ∷ []) few = refl
-zero_matches places (p ∷ q ∷ r ∷ s ∷ []) few = refl
-zero_matches places (p ∷ q ∷ r ∷ s ∷ t ∷ arcs) few = absurd (omega arith)
 
 small_at : {B : Type 0} (places : List ℕ) (arcs : List (Arc B)) (ds : List ℕ) → length places ≤ 15 → matches places arcs ds ≡ true → (k : ℕ) → get_or ds k 0 < 16
 small_at places [] [] few m k = omega arith

@@ -3,15 +3,7 @@
 --     before    the digits before this one
 -- Assumes nothing.
 use Rattle.std.specs.Prelude.{◌≡◌, ℕ, zero, suc, ◌+◌, ◌*◌, ◌/◌, ◌<◌, ◌≤◌, Bool, true, false, not, ◌&&◌, ◌||◌, List, [], ◌∷◌, ◌++◌, length, take, ◌==◌, nat_lt, slice_index}
-use Rattle.bounds.specs.Kinds.{Kind}
-use Rattle.nets.specs.Nets.{Net, arc_of}
-use Rattle.nets.specs.declared.side.Side.TheVariants.{Output}
 use Rattle.zones.specs.Predecessors.{among, stands}
-
--- the place of each of four output arcs, 0 where there is none
-abbrev pub four_places : {B : Type 0} → Kind B → Net B → ℕ → List ℕ
-four_places kind net t =
-    (arc_of kind net t Output 1).place ∷ (arc_of kind net t Output 2).place ∷ (arc_of kind net t Output 3).place ∷ (arc_of kind net t Output 4).place ∷ []
 
 -- the digit is 0, or a token in the arc's place that no arc before has
 abbrev pub fits : List ℕ → List ℕ → List ℕ → ℕ → Bool

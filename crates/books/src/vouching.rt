@@ -39,7 +39,10 @@ impl<'a, 'b, 'c, 'd, 'e, B: Bound> Claim<'a, 'b, 'c, 'd, 'e, B> {
         ensures { result ≡ partner_taken self.now.pairing.now k }
     {
         let partner = byte(self.pairing, k);
-        self.pairing.iter().take(k).any(|earlier| *earlier == partner)
+        self.pairing
+            .iter()
+            .take(k)
+            .any(|earlier| *earlier == partner)
     }
 
     // Whether the partner of token k is no token of the item, or is taken.

@@ -2,9 +2,9 @@
 -- Assumes nothing.
 use Rattle.std.specs.Prelude.{◌≡◌, ℕ, cond, List, Ok, Err, Result}
 use Rattle.bounds.specs.Kinds.{Kind}
-use Rattle.cells.specs.Drafts.{draft_zone}
-use Rattle.cells.specs.Objections.{partners_unsound, places_differ, bound_exceeds, page_zone}
+use Rattle.cells.specs.Objections.{partners_unsound, places_differ, bound_exceeds}
 use Rattle.zones.specs.Vouching.{Vouches}
+use Rattle.zones.specs.Zones.{Zone}
 use Rattle.books.specs.declared.objections.Objection.{Objection}
 use Rattle.books.specs.declared.objections.Objection.TheVariants.{Partner, Place, Bound}
 
@@ -13,13 +13,13 @@ objection_number Partner = 30
 objection_number Place = 31
 objection_number Bound = 32
 
-abbrev pub objection_of : {B : Type 0} → Kind B → List ℕ → List B → List ℕ → List B → List ℕ → Result (Unit {0}) Objection
-objection_of kind page_places page item_places item pairing =
-    cond (partners_unsound page_places item_places pairing) (Err Partner)
-    (cond (places_differ page_places item_places pairing) (Err Place)
-    (cond (bound_exceeds kind page item pairing) (Err Bound) (Ok tt)))
+abbrev pub objection_of : {B : Type 0} → Kind B → (page item : Zone B) → List ℕ → Result (Unit {0}) Objection
+objection_of kind page item pairing =
+    cond (partners_unsound page.places item.places pairing) (Err Partner)
+    (cond (places_differ page.places item.places pairing) (Err Place)
+    (cond (bound_exceeds kind page.bound item.bound pairing) (Err Bound) (Ok tt)))
 
 -- nothing stands against it exactly where the page's zone vouches for the item's
-pub record Means {B : Type 0} (kind : Kind B) (page_places : List ℕ) (page : List B) (item_places : List ℕ) (item : List B) (pairing : List ℕ) (answer : Result (Unit {0}) Objection) : Type 0 where
-  pub vouches : answer ≡ Ok tt → Vouches kind (page_zone kind page_places page) (draft_zone kind item_places item) pairing
-  pub nothing : Vouches kind (page_zone kind page_places page) (draft_zone kind item_places item) pairing → answer ≡ Ok tt
+pub record Means {B : Type 0} (kind : Kind B) (page item : Zone B) (pairing : List ℕ) (answer : Result (Unit {0}) Objection) : Type 0 where
+  pub vouches : answer ≡ Ok tt → Vouches kind page item pairing
+  pub nothing : Vouches kind page item pairing → answer ≡ Ok tt

@@ -1,6 +1,8 @@
 // Whether a page's zone vouches for a zone in a draft, and what stands against it.
 ghost use Rattle.books.specs.Objections.{objection_of, Means};
-ghost use Rattle.cells.specs.Objections.{partner_taken, partner_unsound, partners_unsound, places_differ, exceeds, exceeds_in_row, bound_exceeds};
+ghost use Rattle.cells.specs.Objections.{partner_taken, partner_unsound, partners_unsound, places_differ, exceeds, exceeds_in_row, bound_exceeds, page_zone};
+ghost use Rattle.cells.specs.Cells.{in_draft, in_page};
+ghost use Rattle.cells.specs.Drafts.{draft_zone};
 ghost use Rattle.zones.specs.Vouching.{partner};
 ghost use Rattle.std.specs.Prelude.{◌≡◌, length};
 
@@ -71,7 +73,7 @@ impl<'a, 'b, 'c, 'd, 'e, B: Bound> Claim<'a, 'b, 'c, 'd, 'e, B> {
 
     // Whether the item's bound of the partners of two points is larger than the page's of the points.
     fn exceeds(&self, j: usize, i: usize) -> bool
-        ensures { result ≡ exceeds B.Bound.kind self.now.page.cells.now self.now.item.cells.now self.now.pairing.now j i }
+        ensures { result ≡ exceeds B.Bound.kind (in_page B.Bound.kind self.now.page.cells.now) (in_draft B.Bound.kind self.now.item.cells.now) self.now.pairing.now j i }
     {
         let of_item = bound_at(self.item.cells, self.partner(j), self.partner(i));
         let of_page = self.page.at(j, i);
@@ -80,21 +82,21 @@ impl<'a, 'b, 'c, 'd, 'e, B: Bound> Claim<'a, 'b, 'c, 'd, 'e, B> {
 
     // By number here and below, since each test takes the number of a point.
     fn row_exceeds(&self, j: usize) -> bool
-        ensures { result ≡ exceeds_in_row B.Bound.kind self.now.page.cells.now self.now.item.cells.now self.now.pairing.now j }
+        ensures { result ≡ exceeds_in_row B.Bound.kind (in_page B.Bound.kind self.now.page.cells.now) (in_draft B.Bound.kind self.now.item.cells.now) self.now.pairing.now j }
     {
         (0..self.pairing.len() + 1).any(|i| self.exceeds(j, i))
     }
 
     fn some_exceeds(&self) -> bool
-        ensures { result ≡ bound_exceeds B.Bound.kind self.now.page.cells.now self.now.item.cells.now self.now.pairing.now }
+        ensures { result ≡ bound_exceeds B.Bound.kind (in_page B.Bound.kind self.now.page.cells.now) (in_draft B.Bound.kind self.now.item.cells.now) self.now.pairing.now }
     {
         (0..self.pairing.len() + 1).any(|j| self.row_exceeds(j))
     }
 
     // What stands against the claim, the lowest number first.
     pub fn check(&self) -> Result<(), Objection>
-        ensures is { result ≡ objection_of B.Bound.kind self.now.page.places.now self.now.page.cells.now self.now.item.places.now self.now.item.cells.now self.now.pairing.now }
-        ensures means { Means B.Bound.kind self.now.page.places.now self.now.page.cells.now self.now.item.places.now self.now.item.cells.now self.now.pairing.now result }
+        ensures is { result ≡ objection_of B.Bound.kind (page_zone B.Bound.kind self.now.page.places.now self.now.page.cells.now) (draft_zone B.Bound.kind self.now.item.places.now self.now.item.cells.now) self.now.pairing.now }
+        ensures means { Means B.Bound.kind (page_zone B.Bound.kind self.now.page.places.now self.now.page.cells.now) (draft_zone B.Bound.kind self.now.item.places.now self.now.item.cells.now) self.now.pairing.now result }
     {
         if self.lacks_partners() {
             Err(Objection::Partner)

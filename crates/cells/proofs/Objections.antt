@@ -9,10 +9,10 @@ use Rattle.bounds.specs.Kinds.{Kind}
 use Rattle.nets.specs.Nets.{Every, numbered}
 use Rattle.zones.specs.Predecessors.{among}
 use Rattle.zones.specs.Vouching.{Vouches, Partner, Distinct, partner}
+use Rattle.zones.specs.Zones.{Zone}
+use Rattle.walks.specs.Walks.{Matrix}
 use Rattle.zones.proofs.Chosen.{every_getD, distinct_apart, getD_among}
-use Rattle.cells.specs.Cells.{in_page, in_draft}
-use Rattle.cells.specs.Drafts.{draft_zone}
-use Rattle.cells.specs.Objections.{no_partner, partner_taken, partner_unsound, partners_unsound, place_differs, places_differ, exceeds, exceeds_in_row, bound_exceeds, page_zone}
+use Rattle.cells.specs.Objections.{no_partner, partner_taken, partner_unsound, partners_unsound, place_differs, places_differ, exceeds, exceeds_in_row, bound_exceeds}
 
 -- ---- a search among the numbers below n
 pub none_at : (n i : ℕ) (p : ℕ → Bool) → i < n → list_any p (range_with_len 0 n) ≡ false → p i ≡ false
@@ -92,8 +92,8 @@ module _ (page_places item_places pairing : List ℕ) where
       not_from_true _ (eq-eqb (numbered item_places (get_or pairing k 0) 0) (get_or page_places k 0) (sym (get_or-map (λ p. numbered item_places p 0) pairing k 0 0 l) ∙ ap (λ ps. get_or ps k 0) same)))
 
 -- ---- bounds
-module _ {B : Type 0} (kind : Kind B) (page item : List B) (pairing : List ℕ) where
-  within : bound_exceeds kind page item pairing ≡ false → (j i : ℕ) → j < length pairing + 1 → i < length pairing + 1 → (j ≡ i → ⊥) → kind.at_most (in_draft kind item (partner pairing j) (partner pairing i)) (in_page kind page j i) ≡ true
+module _ {B : Type 0} (kind : Kind B) (page item : Matrix B) (pairing : List ℕ) where
+  within : bound_exceeds kind page item pairing ≡ false → (j i : ℕ) → j < length pairing + 1 → i < length pairing + 1 → (j ≡ i → ⊥) → kind.at_most (item (partner pairing j) (partner pairing i)) (page j i) ≡ true
   within none j i p q apart =
       let row = none_at ((length pairing + 1)) j (exceeds_in_row kind page item pairing) p none in
       let here = none_at ((length pairing + 1)) i (exceeds kind page item pairing j) q row in
@@ -102,7 +102,7 @@ module _ {B : Type 0} (kind : Kind B) (page item : List B) (pairing : List ℕ) 
       (λ e. not-false _ e)
       (and_cases (not (eqb j i)) _ here)
 
-  none_exceeds : ((j i : ℕ) → j < length pairing + 1 → i < length pairing + 1 → (j ≡ i → ⊥) → kind.at_most (in_draft kind item (partner pairing j) (partner pairing i)) (in_page kind page j i) ≡ true) → bound_exceeds kind page item pairing ≡ false
+  none_exceeds : ((j i : ℕ) → j < length pairing + 1 → i < length pairing + 1 → (j ≡ i → ⊥) → kind.at_most (item (partner pairing j) (partner pairing i)) (page j i) ≡ true) → bound_exceeds kind page item pairing ≡ false
   none_exceeds h =
       none_below ((length pairing + 1)) (exceeds_in_row kind page item pairing) (λ j p.
       none_below ((length pairing + 1)) (exceeds kind page item pairing j) (λ i q.
@@ -112,25 +112,25 @@ module _ {B : Type 0} (kind : Kind B) (page item : List B) (pairing : List ℕ) 
       (cases_eq j i)))
 
 -- ---- the whole comparison
-module _ {B : Type 0} (kind : Kind B) (page_places : List ℕ) (page : List B) (item_places : List ℕ) (item : List B) (pairing : List ℕ) where
-  pub vouches_from : partners_unsound page_places item_places pairing ≡ false → places_differ page_places item_places pairing ≡ false → bound_exceeds kind page item pairing ≡ false → Vouches kind (page_zone kind page_places page) (draft_zone kind item_places item) pairing
+module _ {B : Type 0} (kind : Kind B) (page item : Zone B) (pairing : List ℕ) where
+  pub vouches_from : partners_unsound page.places item.places pairing ≡ false → places_differ page.places item.places pairing ≡ false → bound_exceeds kind page.bound item.bound pairing ≡ false → Vouches kind page item pairing
   vouches_from partners places bounds =
-      let parts = or_parts (not (eqb (length pairing) (length page_places))) (list_any (partner_unsound (length item_places) pairing) (range_with_len 0 (length pairing))) partners in
-      let count : length pairing ≡ length page_places = eqb-true (length pairing) (length page_places) (not-false _ parts.0) in
+      let parts = or_parts (not (eqb (length pairing) (length page.places))) (list_any (partner_unsound (length item.places) pairing) (range_with_len 0 (length pairing))) partners in
+      let count : length pairing ≡ length page.places = eqb-true (length pairing) (length page.places) (not-false _ parts.0) in
       record {
         count = count;
-        partners = every_partner (length item_places) pairing parts.1;
-        distinct = distinct_partners (length item_places) pairing parts.1;
-        places = same_places page_places item_places pairing count places;
-        bounds = λ j i p q apart. within kind page item pairing bounds j i (omega (arith, count)) (omega (arith, count)) apart;
+        partners = every_partner (length item.places) pairing parts.1;
+        distinct = distinct_partners (length item.places) pairing parts.1;
+        places = same_places page.places item.places pairing count places;
+        bounds = λ j i p q apart. within kind page.bound item.bound pairing bounds j i (omega (arith, count)) (omega (arith, count)) apart;
       }
 
-  pub none_lacks : Vouches kind (page_zone kind page_places page) (draft_zone kind item_places item) pairing → (partners_unsound page_places item_places pairing ≡ false) × (places_differ page_places item_places pairing ≡ false) × (bound_exceeds kind page item pairing ≡ false)
+  pub none_lacks : Vouches kind page item pairing → (partners_unsound page.places item.places pairing ≡ false) × (places_differ page.places item.places pairing ≡ false) × (bound_exceeds kind page.bound item.bound pairing ≡ false)
   none_lacks v =
-      let count : length pairing ≡ length page_places = v.count in (
-        or_from (not (eqb (length pairing) (length page_places))) (list_any (partner_unsound (length item_places) pairing) (range_with_len 0 (length pairing)))
-            (not_from_true _ (eq-eqb (length pairing) (length page_places) count))
-            (none_unsound (length item_places) pairing v.partners v.distinct),
-        none_differ page_places item_places pairing v.places,
-        none_exceeds kind page item pairing (λ j i p q apart. v.bounds j i (omega (arith, count)) (omega (arith, count)) apart),
+      let count : length pairing ≡ length page.places = v.count in (
+        or_from (not (eqb (length pairing) (length page.places))) (list_any (partner_unsound (length item.places) pairing) (range_with_len 0 (length pairing)))
+            (not_from_true _ (eq-eqb (length pairing) (length page.places) count))
+            (none_unsound (length item.places) pairing v.partners v.distinct),
+        none_differ page.places item.places pairing v.places,
+        none_exceeds kind page.bound item.bound pairing (λ j i p q apart. v.bounds j i (omega (arith, count)) (omega (arith, count)) apart),
       )

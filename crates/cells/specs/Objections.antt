@@ -1,6 +1,6 @@
 -- What a pairing of a page's tokens with an item's can lack: each lack as a test.
 --     page      a zone of the book, which is to vouch
---     item      the zone that it is to vouch for, in a draft
+--     item      the zone that it is to vouch for
 --     pairing   for each token of the page a token of the item
 -- Assumes nothing.
 use Rattle.std.specs.Prelude.{ℕ, ◌+◌, Bool, not, ◌&&◌, ◌||◌, List, length, take, ◌==◌, nat_lt, slice_index}
@@ -10,7 +10,8 @@ use Rattle.nets.specs.Nets.{numbered}
 use Rattle.zones.specs.Predecessors.{among}
 use Rattle.zones.specs.Vouching.{partner}
 use Rattle.zones.specs.Zones.{Zone}
-use Rattle.cells.specs.Cells.{in_page, in_draft}
+use Rattle.walks.specs.Walks.{Matrix}
+use Rattle.cells.specs.Cells.{in_page}
 
 -- ---- partners; tokens are counted from 0 here
 abbrev pub no_partner : ℕ → ℕ → Bool
@@ -35,14 +36,14 @@ abbrev pub places_differ : List ℕ → List ℕ → List ℕ → Bool
 places_differ page_places item_places pairing = list_any (place_differs page_places item_places pairing) (range_with_len 0 (length pairing))
 
 -- ---- bounds
-abbrev pub exceeds : {B : Type 0} → Kind B → List B → List B → List ℕ → ℕ → ℕ → Bool
-exceeds kind page item pairing j i = not (j == i) && not (kind.at_most (in_draft kind item (partner pairing j) (partner pairing i)) (in_page kind page j i))
+abbrev pub exceeds : {B : Type 0} → Kind B → (page item : Matrix B) → List ℕ → ℕ → ℕ → Bool
+exceeds kind page item pairing j i = not (j == i) && not (kind.at_most (item (partner pairing j) (partner pairing i)) (page j i))
 
-abbrev pub exceeds_in_row : {B : Type 0} → Kind B → List B → List B → List ℕ → ℕ → Bool
+abbrev pub exceeds_in_row : {B : Type 0} → Kind B → (page item : Matrix B) → List ℕ → ℕ → Bool
 exceeds_in_row kind page item pairing j = list_any (exceeds kind page item pairing j) (range_with_len 0 (length pairing + 1))
 
 -- some bound of the item is larger than the page's
-abbrev pub bound_exceeds : {B : Type 0} → Kind B → List B → List B → List ℕ → Bool
+abbrev pub bound_exceeds : {B : Type 0} → Kind B → (page item : Matrix B) → List ℕ → Bool
 bound_exceeds kind page item pairing = list_any (exceeds_in_row kind page item pairing) (range_with_len 0 (length pairing + 1))
 
 -- ---- the two zones

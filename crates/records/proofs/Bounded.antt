@@ -12,7 +12,7 @@ use Rattle.records.specs.Bits.{field, flag}
 use Rattle.records.specs.NetBytes.{upper_bound, slot_arc, record_transition, transitions_of, net_of}
 use Rattle.records.specs.NetRecords.{in_order, header_of, transition_record, is_used, slot_has, some_slot_has, record_has, transition_refusal, transition_fault, transitions_fault, sound}
 use Rattle.records.specs.Slots.{end_at, slot_of, slots_of, end_limit, used_has, unused_has}
-use Rattle.records.proofs.Clean.{or_none, sized_none, at_none, all_clear, parts, few_transitions, refusal_counts}
+use Rattle.records.proofs.Clean.{or_none, refusal_none, at_none, all_clear, parts, few_transitions, refusal_counts}
 use Rattle.records.specs.declared.fault.NetRefusal.TheVariants.{NoSuchPlace, EmptyRange}
 use Rattle.records.specs.declared.header.NetHeader.{NetHeader}
 use Rattle.records.specs.declared.slot.End.{End}
@@ -131,17 +131,15 @@ module _ {B : Type 0} (kind : Kind B) where
         }
 
   transition_limits : (h : NetHeader) (bytes : List ℕ) → transition_refusal h bytes ≡ None → TransitionLimits kind h.places (record_transition kind (transition_record bytes))
-  unfolding transition_refusal
   transition_limits h bytes e =
       let counts = refusal_counts h bytes e in
-      record_limits h (transition_record bytes) e (slots_small 8 (drop 1 bytes)) counts.0 counts.1
+      record_limits h (transition_record bytes) (refusal_none h bytes e).1 (slots_small 8 (drop 1 bytes)) counts.0 counts.1
 
   every_transition : (h : NetHeader) (n at : ℕ) (bytes : List ℕ) → transitions_fault h n at bytes ≡ None → Every (TransitionLimits kind h.places) (transitions_of kind n bytes)
   every_transition h zero at bytes e = tt
   every_transition h (suc n) at bytes e =
       let both = or_none (transition_fault h at bytes) (transitions_fault h n (at + 1) (drop 41 bytes)) e in
-      let here = sized_none 41 at bytes _ both.0 in
-      (transition_limits h (take 41 bytes) (at_none at _ here.1), every_transition h n (at + 1) (drop 41 bytes) both.1)
+      (transition_limits h (take 41 bytes) (at_none at _ both.0), every_transition h n (at + 1) (drop 41 bytes) both.1)
 
   transitions_count : (n : ℕ) (bytes : List ℕ) → length (transitions_of kind n bytes) ≡ n
   transitions_count zero bytes = refl

@@ -37,10 +37,10 @@ pub or_none : (a b : Option NetFault) → or_else a b ≡ None → (a ≡ None) 
 or_none None b e = (refl, e)
 or_none (Some f) b e = let z : ◌≡◌ {A = ℕ} 0 1 = cc in absurd (omega arith)
 
-pub sized_none : (n at : ℕ) (bytes : List ℕ) (f : Option NetFault) → sized n at bytes f ≡ None → (n ≤ length bytes) × (f ≡ None)
-sized_none n at bytes f e = by_test (ltb (length bytes) n) refl e
+pub sized_none : (n : ℕ) (bytes : List ℕ) (has : NetRefusal → Bool) → sized n bytes has ≡ None → (n ≤ length bytes) × (find has in_order ≡ None)
+sized_none n bytes has e = by_test (ltb (length bytes) n) refl e
   where
-    by_test : (t : Bool) → ltb (length bytes) n ≡ t → cond t (Some (record { refusal = BytesMissing; at = at })) f ≡ None → (n ≤ length bytes) × (f ≡ None)
+    by_test : (t : Bool) → ltb (length bytes) n ≡ t → cond t (Some BytesMissing) (find has in_order) ≡ None → (n ≤ length bytes) × (find has in_order ≡ None)
     by_test true h e = let z : ◌≡◌ {A = ℕ} 0 1 = cc in absurd (omega arith)
     by_test false h e = (ltb-false (length bytes) n h, e)
 
@@ -72,31 +72,34 @@ all_clear has e =
     record { zero_fields = a.0; in_limits = b.0; places = c.0; marks = d.0; ranges = (first_none has EmptyRange [] d.1).0 }
 
 -- ---- each transition is whole and has no refusal
+pub refusal_none : (h : NetHeader) (bytes : List ℕ) → transition_refusal h bytes ≡ None → (41 ≤ length bytes) × (find (record_has h (transition_record bytes)) in_order ≡ None)
+unfolding transition_refusal
+refusal_none h bytes e = sized_none 41 bytes (record_has h (transition_record bytes)) e
+
 pub transitions_clean : (h : NetHeader) (n at : ℕ) (bytes : List ℕ) → transitions_fault h n at bytes ≡ None → (i : ℕ) → i < n → (41 * i + 41 ≤ length bytes) × (transition_refusal h (take 41 (drop (41 * i) bytes)) ≡ None)
 transitions_clean h zero at bytes e i lt = absurd (omega arith)
 transitions_clean h (suc n) at bytes e zero lt =
-    let here = sized_none 41 at bytes _ (or_none (transition_fault h at bytes) _ e).0 in
-    (omega (arith, here.0), at_none at _ here.1)
+    let here = at_none at _ (or_none (transition_fault h at bytes) _ e).0 in
+    (omega (arith, (refusal_none h (take 41 bytes) here).0, length-take 41 bytes), here)
 transitions_clean h (suc n) at bytes e (suc i) lt =
     let both = or_none (transition_fault h at bytes) (transitions_fault h n (at + 1) (drop 41 bytes)) e in
-    let here = sized_none 41 at bytes _ both.0 in
     let rest = transitions_clean h n (at + 1) (drop 41 bytes) both.1 i (omega arith) in
     let place : 41 + 41 * i ≡ 41 * suc i = omega arith in
-    (omega (arith, here.0, rest.0, length-drop 41 bytes), ap (λ r. transition_refusal h (take 41 r)) (sym (drop-drop (41 * i) 41 bytes ∙ ap (λ m. drop m bytes) place)) ∙ rest.1)
+    (omega (arith, rest.0, length-drop 41 bytes), ap (λ r. transition_refusal h (take 41 r)) (sym (drop-drop (41 * i) 41 bytes ∙ ap (λ m. drop m bytes) place)) ∙ rest.1)
 
 module _ (bytes : List ℕ) (clean : sound bytes ≡ true) where
   pub parts : (header_fault bytes ≡ None) × (transitions_fault (header_of (take 4 bytes)) (header_of (take 4 bytes)).transitions 1 (drop 4 bytes) ≡ None)
   parts = or_none (header_fault bytes) _ (sound_clean bytes clean)
 
-  pub header_whole : 4 ≤ length bytes
-  header_whole = (sized_none 4 0 bytes _ parts.0).0
+  header_clean : (4 ≤ length (take 4 bytes)) × (find (header_has (take 4 bytes)) in_order ≡ None)
+  header_clean = sized_none 4 (take 4 bytes) (header_has (take 4 bytes)) (at_none 0 _ parts.0)
 
-  header_first : find (header_has (take 4 bytes)) in_order ≡ None
-  header_first = at_none 0 _ (sized_none 4 0 bytes _ parts.0).1
+  pub header_whole : 4 ≤ length bytes
+  header_whole = omega (arith, header_clean.0, length-take 4 bytes)
 
   pub few_transitions : (header_of (take 4 bytes)).transitions ≤ 64
   few_transitions =
-      let outside = (all_clear (header_has (take 4 bytes)) header_first).in_limits in
+      let outside = (all_clear (header_has (take 4 bytes)) header_clean.1).in_limits in
       let b = field (take 4 bytes) 8 7 in
       ltb-false 64 b (or_parts (eqb (field (take 4 bytes) 0 2) 3) (ltb 64 b) outside).1
 
@@ -155,8 +158,7 @@ record_counts h r e =
     (ltb-false 4 r.inputs both.0, ltb-false 4 r.outputs both.1)
 
 pub refusal_counts : (h : NetHeader) (bytes : List ℕ) → transition_refusal h bytes ≡ None → ((transition_record bytes).inputs ≤ 4) × ((transition_record bytes).outputs ≤ 4)
-unfolding transition_refusal
-refusal_counts h bytes e = record_counts h (transition_record bytes) e
+refusal_counts h bytes e = record_counts h (transition_record bytes) (refusal_none h bytes e).1
 
 pub few_arcs : (side : Side) (h : NetHeader) (bytes : List ℕ) → transition_refusal h bytes ≡ None → side_count side (transition_record bytes) ≤ 4
 few_arcs Input h bytes e = (refusal_counts h bytes e).0

@@ -1,8 +1,11 @@
 -- Fields of bits by quotients and remainders of their bytes. Assumes nothing.
-use Rattle.std.proofs.Common.{◌≡◌, ℕ, zero, suc, ◌+◌, ◌-◌, ◌*◌, ◌/◌, ◌%◌, ◌^◌, ◌<◌, ◌≤◌, Bool, cond, eqb, List, get_or, take, drop, Some, None, sym, ap, ◌∙◌, add-zero, add-suc, mul_assoc, mul_comm, pow-suc, arith}
+use Rattle.std.proofs.Common.{◌≡◌, ℕ, zero, suc, ◌+◌, ◌-◌, ◌*◌, ◌/◌, ◌%◌, ◌^◌, ◌<◌, ◌≤◌, Bool, cond, eqb, List, [], ◌∷◌, get_or, take, drop, Some, None, sym, refl, ap, ◌∙◌, add-zero, add-suc, mul_assoc, mul_comm, pow-suc, arith}
 use Rattle.std.proofs.lemmas.Nat.{mod-pow-add, shr-shr}
 use Rattle.std.proofs.lemmas.List.{get_or-take}
+use Rattle.nets.specs.declared.side.Side.{Side}
+use Rattle.nets.specs.declared.side.Side.TheVariants.{Input, Output}
 use Rattle.records.specs.Bits.{bit, field, flag}
+use Rattle.records.specs.NetBytes.{side_count}
 use Rattle.records.specs.NetRecords.{transition_record}
 use Rattle.records.specs.Slots.{zero_end, end_at, slot_of, slots_of}
 use Rattle.records.specs.declared.slot.End.{End}
@@ -115,13 +118,17 @@ split_slot bytes s upper unlimited byte place ls ln un us un' sp above below =
     let below' : s.unused ≡ cond (flag xs 22) (end_at xs 23) zero_end = below ∙ λ i. cond (open_ended i) (high i) zero_end in
     λ i. record { place = place' i; lower = record { strict = low i; number = lower' i }; upper = above' i; unused = below' i; spare = last i }
 
+-- the first byte alone says how many arcs a side has
+pub counted : (side : Side) (bytes : List ℕ) → side_count side (transition_record (get_or bytes 0 0 ∷ [])) ≡ side_count side (transition_record bytes)
+counted Input bytes = refl
+counted Output bytes = refl
+
 -- a transition record whose counts are those of the first byte
-pub record_fields : (bytes : List ℕ) (n : ℕ) (slots : List Slot) → n ≡ get_or bytes 0 0 → n < 256 → slots ≡ slots_of 8 (drop 1 bytes) → ◌≡◌ {A = TransitionRecord} (record { inputs = n / 32; outputs = n / 4 % 8; spare = n % 4; slots = slots }) (transition_record bytes)
-record_fields bytes n slots first byte e =
-    let i : n / 32 ≡ get_or bytes 0 0 / 32 % 8 = omega arith in
-    let o : n / 4 % 8 ≡ get_or bytes 0 0 / 4 % 8 = omega arith in
+pub record_fields : (bytes : List ℕ) (n inputs outputs : ℕ) (slots : List Slot) → n ≡ get_or bytes 0 0 → inputs ≡ side_count Input (transition_record (n ∷ [])) → outputs ≡ side_count Output (transition_record (n ∷ [])) → slots ≡ slots_of 8 (drop 1 bytes) → ◌≡◌ {A = TransitionRecord} (record { inputs = inputs; outputs = outputs; spare = n % 4; slots = slots }) (transition_record bytes)
+record_fields bytes n inputs outputs slots first i o e =
+    let first_count : (side : Side) → side_count side (transition_record (n ∷ [])) ≡ side_count side (transition_record bytes) = λ side. ap (λ m. side_count side (transition_record (m ∷ []))) first ∙ counted side bytes in
+    let inputs' = i ∙ first_count Input in
+    let outputs' = o ∙ first_count Output in
     let s : n % 4 ≡ get_or bytes 0 0 / 1 % 4 = omega arith in
-    let inputs' = i ∙ sym (byte_field bytes 0 0 3 (omega arith)) in
-    let outputs' = o ∙ sym (byte_field bytes 0 3 3 (omega arith)) in
     let spare' = s ∙ sym (byte_field bytes 0 6 2 (omega arith)) in
     λ j. record { inputs = inputs' j; outputs = outputs' j; spare = spare' j; slots = e j }

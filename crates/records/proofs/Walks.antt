@@ -1,12 +1,14 @@
 -- Steps of the walk through the transitions of a net. Assumes nothing.
-use Rattle.std.proofs.Common.{◌≡◌, ℕ, suc, ◌+◌, ◌-◌, ◌<◌, ◌≤◌, Bool, true, false, cond, ltb, List, length, take, drop, Some, None, Ok, Err, Option, Result, MatchResult, IsErrAnd, sym, refl, ap, ◌∙◌, arith}
-use Rattle.std.proofs.lemmas.Bool.{le-ltb, cond-false}
+use Rattle.std.proofs.Common.{◌≡◌, ℕ, suc, ◌+◌, ◌-◌, ◌<◌, ◌≤◌, Bool, true, false, cond, ltb, List, length, take, drop, Some, None, Ok, Err, Option, Result, MatchResult, IsErrAnd, sym, refl, ap, ◌∙◌, arith, length-take}
+use Rattle.std.proofs.lemmas.Bool.{lt-ltb, cond-true}
 use Rattle.std.proofs.lemmas.Result.{err_from_is_err_and}
 use Rattle.std.specs.List.{find}
-use Rattle.records.specs.NetRecords.{in_order, at_record, header_has, header_refusal, transition_record, record_has, transition_refusal, or_else, header_of, header_fault, transition_fault, transitions_fault, net_fault, tested}
+use Rattle.records.specs.NetRecords.{in_order, at_record, header_refusal, transition_record, record_has, transition_refusal, or_else, header_of, header_fault, transition_fault, transitions_fault, net_fault, tested}
 use Rattle.records.specs.Refusals.{NetFault}
 use Rattle.records.specs.declared.fault.NetRefusal.{NetRefusal}
+use Rattle.records.specs.declared.fault.NetRefusal.TheVariants.{BytesMissing}
 use Rattle.records.specs.declared.header.NetHeader.{NetHeader}
+use Rattle.records.specs.declared.transition.TransitionRecord.{TransitionRecord}
 
 -- what an answer of a test says of the fault
 pub tested_ok : {X : Type 0} (x y : X) (o : Option NetFault) → Ok y ≡ tested x o → (o ≡ None) × (y ≡ x)
@@ -24,33 +26,28 @@ tested_at x (Some e) at t r same m is =
     let p = err_from_is_err_and r (rw same at m) in
     p.1 ∙ ap Err (is e p.0 p.2)
 
--- a record that a reader handed on whole
-pub header_whole : (rest bytes : List ℕ) (at : ℕ) → 4 ≤ length rest → bytes ≡ take 4 rest → length bytes ≡ 4 → at ≡ 0 → tested (header_of bytes) (at_record at (header_refusal bytes)) ≡ tested (header_of (take 4 rest)) (header_fault rest)
-header_whole rest bytes at long is whole first =
-    ap (λ o. tested (header_of bytes) (at_record at o)) (cond-false (ltb (length bytes) 4) _ _ (le-ltb (length bytes) 4 (omega arith)))
-    ∙ ap (λ n. tested (header_of bytes) (at_record n (find (header_has bytes) in_order))) first
-    ∙ ap (λ b. tested (header_of b) (at_record 0 (find (header_has b) in_order))) is
-    ∙ ap (tested (header_of (take 4 rest))) (sym (cond-false (ltb (length rest) 4) _ _ (le-ltb (length rest) 4 long)))
-
-pub transition_whole : (h : NetHeader) (rest bytes : List ℕ) (at next : ℕ) → 41 ≤ length rest → bytes ≡ take 41 rest → at ≡ next → tested {X = Unit {0}} tt (at_record at (transition_refusal h bytes)) ≡ tested {X = Unit {0}} tt (transition_fault h next rest)
-transition_whole h rest bytes at next long is same =
-    ap (λ n. tested tt (at_record n (transition_refusal h bytes))) same
-    ∙ ap (λ b. tested tt (at_record next (transition_refusal h b))) is
-    ∙ ap (tested tt) (sym (cond-false (ltb (length rest) 41) _ _ (le-ltb (length rest) 41 long)))
-
--- the test of a transition's bytes
-pub transition_tested : (h : NetHeader) (bytes : List ℕ) (r : Result Unit NetRefusal) → r ≡ tested tt (find (record_has h (transition_record bytes)) in_order) → r ≡ tested tt (transition_refusal h bytes)
+-- a transition that is not there
+pub transition_missing : (h : NetHeader) (at : ℕ) (rest : List ℕ) → length rest < 41 → transition_fault h at rest ≡ Some (record { refusal = BytesMissing; at = at })
 unfolding transition_refusal
-transition_tested h bytes r e = e
+transition_missing h at rest short =
+    ap (at_record at) (cond-true (ltb (length (take 41 rest)) 41) _ _ (lt-ltb (length (take 41 rest)) 41 (omega (arith, length-take 41 rest))))
 
--- a record that is read before it is tested
-pub read_err : {X Y F : Type 0} (short : Bool) (m e : F) (x : X) (y r : Result Y F) → Err e ≡ cond short (Err m) (Ok x) → r ≡ Err e → r ≡ cond short (Err m) y
-read_err true m e x y r is end = end ∙ ap Err (cc)
-read_err false m e x y r is end = let z : ◌≡◌ {A = ℕ} 0 1 = cc in absurd (omega arith)
+-- a transition that is read before it is tested
+pub read_err : (h : NetHeader) (bytes : List ℕ) (e : NetRefusal) → Err e ≡ cond (ltb (length bytes) 41) (Err BytesMissing) (Ok (transition_record bytes)) → Err e ≡ tested {X = Unit {0}} tt (transition_refusal h bytes)
+unfolding transition_refusal
+read_err h bytes e is = by_test (ltb (length bytes) 41) is
+  where
+    by_test : (short : Bool) → Err e ≡ cond short (Err BytesMissing) (Ok (transition_record bytes)) → Err e ≡ tested {X = Unit {0}} tt (cond short (Some BytesMissing) (find (record_has h (transition_record bytes)) in_order))
+    by_test true same = ap Err (cc)
+    by_test false same = let z : ◌≡◌ {A = ℕ} 0 1 = cc in absurd (omega arith)
 
-pub read_ok : {X Y F : Type 0} (short : Bool) (m : F) (x v : X) (y : Result Y F) → Ok v ≡ cond short (Err m) (Ok x) → (v ≡ x) × (y ≡ cond short (Err m) y)
-read_ok true m x v y is = let z : ◌≡◌ {A = ℕ} 0 1 = cc in absurd (omega arith)
-read_ok false m x v y is = (cc, refl)
+pub read_ok : (h : NetHeader) (bytes : List ℕ) (v : TransitionRecord) → Ok v ≡ cond (ltb (length bytes) 41) (Err BytesMissing) (Ok (transition_record bytes)) → tested {X = Unit {0}} tt (find (record_has h v) in_order) ≡ tested tt (transition_refusal h bytes)
+unfolding transition_refusal
+read_ok h bytes v is = by_test (ltb (length bytes) 41) is
+  where
+    by_test : (short : Bool) → Ok v ≡ cond short (Err BytesMissing) (Ok (transition_record bytes)) → tested {X = Unit {0}} tt (find (record_has h v) in_order) ≡ tested tt (cond short (Some BytesMissing) (find (record_has h (transition_record bytes)) in_order))
+    by_test true same = let z : ◌≡◌ {A = ℕ} 0 1 = cc in absurd (omega arith)
+    by_test false same = let e : v ≡ transition_record bytes = cc in ap (λ r. tested tt (find (record_has h r) in_order)) e
 
 -- the transitions from here on have the fault that all of them have
 abbrev pub Walked : NetHeader → ℕ → ℕ → List ℕ → List ℕ → Type 0
@@ -80,9 +77,6 @@ walked_all h done at rest bytes end so_far clean is =
     ∙ ap (λ g. transitions_fault g g.transitions 1 (drop 4 bytes)) (sym is)
     ∙ sym so_far
     ∙ ap (λ n. transitions_fault h n at rest) e
-
-pub header_faulty : (bytes : List ℕ) (f : NetFault) → header_fault bytes ≡ Some f → net_fault bytes ≡ Some f
-header_faulty bytes f e = ap (λ o. or_else o (transitions_fault (header_of (take 4 bytes)) (header_of (take 4 bytes)).transitions 1 (drop 4 bytes))) e
 
 -- a header that was read from a reader over the bytes
 pub header_clean : (bytes held : List ℕ) (h : NetHeader) → held ≡ bytes → Ok h ≡ tested (header_of (take 4 held)) (header_fault held) → (header_fault bytes ≡ None) × (h ≡ header_of (take 4 bytes))

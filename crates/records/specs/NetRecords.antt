@@ -18,6 +18,10 @@ use Rattle.records.specs.declared.transition.TransitionRecord.{TransitionRecord}
 abbrev pub in_order : List NetRefusal
 in_order = NotZero ∷ (OutsideLimits ∷ (NoSuchPlace ∷ (MarkUnderPlain ∷ (EmptyRange ∷ []))))
 
+-- what is wrong with a record of so many bytes, lowest number first
+abbrev pub sized : ℕ → List ℕ → (NetRefusal → Bool) → Option NetRefusal
+sized size bytes has = cond (nat_lt (length bytes) size) (Some BytesMissing) (find has in_order)
+
 -- ---- the net header: kind 2 bits, places less one 6, transitions 7, spare 17
 -- kind 2 is marked; 0 and 1 are plain
 abbrev pub header_of : List ℕ → NetHeader
@@ -31,9 +35,8 @@ header_has bytes NoSuchPlace = false
 header_has bytes MarkUnderPlain = false
 header_has bytes EmptyRange = false
 
--- what is wrong with a header's bytes, lowest number first
 abbrev pub header_refusal : List ℕ → Option NetRefusal
-header_refusal bytes = cond (nat_lt (length bytes) 4) (Some BytesMissing) (find (header_has bytes) in_order)
+header_refusal bytes = sized 4 bytes (header_has bytes)
 
 -- ---- a transition: input count 3 bits, output count 3, spare 2, four input slots, four output slots
 abbrev pub transition_record : List ℕ → TransitionRecord
@@ -64,9 +67,8 @@ counts_have EmptyRange r = false
 abbrev pub record_has : NetHeader → TransitionRecord → NetRefusal → Bool
 record_has h r refusal = counts_have refusal r || some_slot_has refusal h r 0 r.slots
 
--- what is wrong with a transition's 41 bytes, lowest number first
 unfoldable pub transition_refusal : NetHeader → List ℕ → Option NetRefusal
-transition_refusal h bytes = find (record_has h (transition_record bytes)) in_order
+transition_refusal h bytes = sized 41 bytes (record_has h (transition_record bytes))
 
 -- ---- the whole net
 abbrev pub at_record : ℕ → Option NetRefusal → Option NetFault
@@ -77,15 +79,11 @@ abbrev pub or_else : Option NetFault → Option NetFault → Option NetFault
 or_else None later = later
 or_else (Some fault) later = Some fault
 
--- a record of so many bytes, which may be missing
-abbrev pub sized : ℕ → ℕ → List ℕ → Option NetFault → Option NetFault
-sized size at bytes fault = cond (nat_lt (length bytes) size) (Some (record { refusal = BytesMissing; at = at })) fault
-
 abbrev pub header_fault : List ℕ → Option NetFault
-header_fault bytes = sized 4 0 bytes (at_record 0 (find (header_has (take 4 bytes)) in_order))
+header_fault bytes = at_record 0 (header_refusal (take 4 bytes))
 
 abbrev pub transition_fault : NetHeader → ℕ → List ℕ → Option NetFault
-transition_fault h at bytes = sized 41 at bytes (at_record at (transition_refusal h (take 41 bytes)))
+transition_fault h at bytes = at_record at (transition_refusal h (take 41 bytes))
 
 -- n transitions, the first of them record `at`
 abbrev pub transitions_fault : NetHeader → ℕ → ℕ → List ℕ → Option NetFault

@@ -1,5 +1,6 @@
 // Transition records: counts, and four slots a side.
-ghost use Rattle.std.specs.Prelude.{◌≡◌, Bool, length, nat_lt, cond, Ok, Err};
+ghost use Rattle.std.specs.Prelude.{◌≡◌, Bool, [], ◌∷◌, length, nat_lt, cond, Ok, Err};
+ghost use Rattle.records.specs.NetBytes.{side_count};
 ghost use Rattle.records.specs.NetRecords.{transition_record, is_used, some_slot_has, record_has, in_order, transition_refusal, tested};
 ghost use Rattle.records.specs.Slots.{used_has, unused_has};
 ghost use Rattle.records.specs.declared.fault.NetRefusal.{NetRefusal};
@@ -11,6 +12,7 @@ ghost use Rattle.std.specs.List.{find};
 use crate::fault::NetRefusal;
 use crate::header::{NetHeader, NetKind};
 use crate::slot::Slot;
+use nets::Side;
 
 #[derive(Clone, Copy)]
 pub struct TransitionRecord {
@@ -18,6 +20,16 @@ pub struct TransitionRecord {
     pub outputs: u8,
     pub spare: u8,
     pub slots: [Slot; 8],
+}
+
+// How many arcs a side has, by the first byte of the record.
+pub(crate) fn side_count(counts: u8, side: Side) -> u8
+    ensures { result ≡ side_count side (transition_record (counts ∷ [])) }
+{
+    match side {
+        Side::Input => counts / 32,
+        Side::Output => counts / 4 % 8,
+    }
 }
 
 impl TransitionRecord {
@@ -33,8 +45,8 @@ impl TransitionRecord {
             (*slot, rest) = Slot::split(rest).ok_or(NetRefusal::BytesMissing)?;
         }
         Ok(TransitionRecord {
-            inputs: counts / 32,
-            outputs: counts / 4 % 8,
+            inputs: side_count(*counts, Side::Input),
+            outputs: side_count(*counts, Side::Output),
             spare: counts % 4,
             slots,
         })
@@ -95,7 +107,7 @@ impl TransitionRecord {
 
     // The same of the record at the front of the bytes.
     pub(crate) fn test(bytes: &[u8], header: NetHeader) -> Result<(), NetRefusal>
-        ensures { result ≡ cond (nat_lt (length bytes.now) 41) (Err BytesMissing) (tested tt (transition_refusal header bytes.now)) }
+        ensures { result ≡ tested tt (transition_refusal header bytes.now) }
     {
         TransitionRecord::read(bytes)?.check(header)
     }

@@ -1,15 +1,14 @@
 // What the packed net store answers. Each arc is decoded where it lies.
-ghost use Rattle.std.specs.Prelude.{◌≡◌, ◌+◌, ◌≤◌, true, false, ◌&&◌, length, take, drop, if◌then◌else◌, MatchOption, MatchResult, Some, nat_le};
+ghost use Rattle.std.specs.Prelude.{◌≡◌, ◌+◌, ◌≤◌, true, false, ◌&&◌, take, if◌then◌else◌, MatchOption, MatchResult, Some, nat_le};
 ghost use Rattle.records.specs.NetBytes.{transition_bytes, has_transition, side_count, side_start, arcs_at, slot_at};
 ghost use Rattle.records.specs.NetRecords.{sound, no_net, net_fault, header_of, transition_record};
-ghost use Rattle.records.specs.Slots.{slot_of};
 
 use crate::fault::NetFault;
 use crate::header::{NetHeader, NetKind};
 use crate::net::check_net;
 use crate::packed::PackedNet;
 use crate::slot::Slot;
-use crate::transition::TransitionRecord;
+use crate::transition::{TransitionRecord, side_count};
 use nets::Side;
 
 // A net of one place and no transitions, of plain kind.
@@ -21,20 +20,10 @@ const NO_HEADER: NetHeader = NetHeader {
     transitions: 0,
 };
 
-// How many arcs the bytes of a transition say for a side.
-fn side_count(bytes: &[u8; TransitionRecord::SIZE], side: Side) -> u8
-    ensures { result ≡ side_count side (transition_record bytes.now) }
-{
-    match side {
-        Side::Input => bytes[0] / 32,
-        Side::Output => bytes[0] / 4 % 8,
-    }
-}
-
 fn has_arc(bytes: &[u8; TransitionRecord::SIZE], side: Side, arc: u8) -> bool
     ensures { result ≡ (nat_le 1 arc && nat_le arc (side_count side (transition_record bytes.now))) }
 {
-    (1..=side_count(bytes, side)).contains(&arc)
+    (1..=side_count(bytes[0], side)).contains(&arc)
 }
 
 // Where the slots of a side begin.
@@ -88,7 +77,7 @@ impl<'a> PackedNet<'a> {
         ensures { result ≡ arcs_at self.now.bytes.now transition side }
     {
         self.transition(transition)
-            .map_or(0, |bytes| side_count(bytes, side))
+            .map_or(0, |bytes| side_count(bytes[0], side))
     }
 
     // The slot of an arc, if there is such an arc. An arc is named by these three as net stores name it.

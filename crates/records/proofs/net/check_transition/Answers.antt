@@ -1,14 +1,15 @@
-use Rattle.std.proofs.Common.{length, ltb, ◌∙◌, rules, arith}
-use Rattle.std.proofs.lemmas.Bool.{le-ltb, cond-false}
-use Rattle.records.specs.NetRecords.{transition_refusal, tested}
-use Rattle.records.proofs.Walks.{tested_at, transition_whole}
+use Rattle.std.proofs.Common.{◌<◌, length, take, rules, arith}
+use Rattle.records.specs.NetRecords.{transition_refusal}
+use Rattle.records.proofs.Walks.{tested_at, transition_missing}
 use Rattle.records.proofs.net.check_transition.Goals as goal
+
+pub returns-in_err-bytes-clause-answer : goal.returns-in_err-bytes-clause-answer
+returns-in_err-bytes-clause-answer c =
+    let rest = c.args.reader.now.rest.now in
+    let short : length rest < 41 = omega (arith, c.in_err-bytes.ensures.0) in
+    search (rules, transition_missing c.args.header c.args.reader.now.next rest short)
 
 pub returns-clause-answer : goal.returns-clause-answer
 returns-clause-answer c =
-    let part = c.in_ok-bytes.field-0 in
-    let bytes = part.bytes.now in
     let parted = c.in_ok-bytes.ensures in
-    let checked = c.test.ensures ∙ cond-false (ltb (length bytes) 41) _ (tested tt (transition_refusal c.args.header bytes)) (le-ltb (length bytes) 41 (omega (arith, parted.3))) in
-    tested_at tt (transition_refusal c.args.header bytes) part.at c.test.result c.map_err.result checked c.map_err.ensures.cases (λ e f q. search rules)
-    ∙ transition_whole c.args.header c.args.reader.now.rest.now bytes part.at c.args.reader.now.next parted.1 parted.2 parted.4
+    tested_at tt (transition_refusal c.args.header (take 41 c.args.reader.now.rest.now)) c.args.reader.now.next c.test.result c.map_err.result (rw parted.2 at c.test.ensures) c.map_err.ensures.cases (λ e f q. search (rules, parted.4))

@@ -40,4 +40,4 @@ returns c =
     let end : c.loop-slot.slot-index ≡ 8 = omega arith in
     let slots = sym (take_all 8 items (omega arith)) ∙ ap (λ n. take n items) (sym end) ∙ so_far.so_far ∙ ap (λ n. slots_of n (drop 1 bytes)) end in
     let count : c.in_ok-counts.counts.now ≡ get_or bytes 0 0 = search rules in
-    ap Ok (record_fields bytes c.in_ok-counts.counts.now items count (omega (arith, c.type_inv.bytes 0)) slots) ∙ sym (cond-false (ltb (length bytes) 41) _ _ (le-ltb (length bytes) 41 (omega arith)))
+    ap Ok (record_fields bytes c.in_ok-counts.counts.now _ _ items count c.side_count.ensures c.side_count-2.ensures slots) ∙ sym (cond-false (ltb (length bytes) 41) _ _ (le-ltb (length bytes) 41 (omega arith)))

@@ -1,4 +1,3 @@
 pub mod Windows
 pub mod Said
 pub mod Sizes
-pub mod Clean

@@ -1,11 +1,12 @@
--- The sizes of the bounds that a zone record says. Assumes nothing.
-use Rattle.std.proofs.Common.{◌≡◌, ℕ, ◌+◌, ◌<◌, ◌≤◌, Bool, true, false, cond, ◌&&◌, eqb, ltb, leb, List, Some, None, Option, IfSome, ℤ, pos, ◌-ℤ◌, nat_abs, sym, ap, ◌∙◌, subst, ⊎_elim, arith}
+-- The sizes of the zone that a record says: of its bounds, and of its list of places. Assumes nothing.
+use Rattle.std.proofs.Common.{◌≡◌, ℕ, ◌+◌, ◌<◌, ◌≤◌, min, Bool, true, false, cond, ◌&&◌, eqb, ltb, leb, List, length, Some, None, Option, IfSome, ℤ, pos, ◌-ℤ◌, nat_abs, sym, ap, ◌∙◌, subst, ⊎_elim, arith}
 use borrow.Author.Differences.{ints}
+use Rattle.std.proofs.lemmas.List.FromFn.{length-map-range_with_len}
 use Rattle.std.proofs.lemmas.Bool.{cond_both, ltb-true, ltb-false, and_parts, cases_eq, le-leb, cond-true}
 use Rattle.bounds.specs.Kinds.{Kind, Named, bound_of}
+use Rattle.records.proofs.Fields.{field_below}
 use Rattle.zones.specs.Zones.{SizedZone}
-use Rattle.entries.specs.ZoneRecords.{signed, limit_of, limit, number_at, mark_at, entry_at, entry_start, entry_bound, bound_at, zone_of}
-use Rattle.entries.proofs.Windows.{field_small}
+use Rattle.entries.specs.ZoneRecords.{tokens_of, place_at, signed, limit_of, limit, number_at, mark_at, entry_at, entry_start, entry_bound, bound_at, zone_of}
 
 -- no limit, or a number within the limits of a kind
 abbrev pub Small : Option ℤ → Type 0
@@ -28,7 +29,7 @@ limit_small n small =
 
 pub number_small : (bytes : List ℕ) (j i : ℕ) → Small (number_at bytes j i)
 unfolding number_at
-number_small bytes j i = limit_small _ (field_small bytes (entry_start j i + 1) 19)
+number_small bytes j i = limit_small _ (field_below bytes (entry_start j i + 1) 19)
 
 module _ {B : Type 0} (kind : Kind B) where
   entry_small : (mark : Bool) (o : Option ℤ) → Small o → kind.size (limit kind mark o) ≤ 262143
@@ -49,3 +50,6 @@ module _ {B : Type 0} (kind : Kind B) where
 
   pub zone_small : (bytes : List ℕ) → SizedZone kind 262143 (zone_of kind bytes)
   zone_small bytes j i _ _ = bound_small bytes j i
+
+  pub places_length : (bytes : List ℕ) → tokens_of bytes ≤ 8 → length (zone_of kind bytes).places ≡ tokens_of bytes
+  places_length bytes few = length-map-range_with_len (place_at bytes) 1 (min (tokens_of bytes) 8) ∙ omega arith

@@ -1,14 +1,8 @@
 -- Fields of bits by the numbers of the bytes around them. Assumes nothing.
 use Rattle.std.proofs.Common.{◌≡◌, ℕ, zero, suc, ◌+◌, ◌-◌, ◌*◌, ◌/◌, ◌%◌, ◌^◌, ◌<◌, ◌≤◌, List, get_or, sym, ap, ◌∙◌, add-zero, mul_assoc, add-mul, pow-suc, zero-add, arith}
 use Rattle.std.proofs.lemmas.Nat.{pow-add, shr_high, mod_low}
-use Rattle.records.proofs.Fields.{byte_field, field_join}
+use Rattle.records.proofs.Fields.{byte_field, field_join, field_below}
 use Rattle.records.specs.Bits.{bit, field}
-
-pub field_small : (xs : List ℕ) (from w : ℕ) → field xs from w < 2 ^ w
-field_small xs from zero = omega arith
-field_small xs from (suc w) =
-    let last : bit xs (from + w) < 2 = omega arith in
-    omega (arith, field_small xs from w, pow-suc 2 w)
 
 -- a field among more bits: `p` stand before it and `r` after it
 pub field_within : (xs : List ℕ) (from p w r : ℕ) → field xs (from + p) w ≡ field xs from (p + (w + r)) / 2 ^ r % 2 ^ w
@@ -20,7 +14,7 @@ field_within xs from p w r =
     field_join xs from p (w + r)
     ∙ ap (λ n. a * 2 ^ (w + r) + n) (field_join xs (from + p) w r)
     ∙ regroup a f z (2 ^ (w + r)) (2 ^ w) (2 ^ r) (pow-add 2 w r) in
-    sym (ap (λ n. n / 2 ^ r % 2 ^ w) whole ∙ ap (λ n. n % 2 ^ w) (shr_high (a * 2 ^ w + f) r z (field_small xs (from + p + w) r)) ∙ mod_low a w f (field_small xs (from + p) w))
+    sym (ap (λ n. n / 2 ^ r % 2 ^ w) whole ∙ ap (λ n. n % 2 ^ w) (shr_high (a * 2 ^ w + f) r z (field_below xs (from + p + w) r)) ∙ mod_low a w f (field_below xs (from + p) w))
   where
     regroup : (a f z u v t : ℕ) → u ≡ v * t → a * u + (f * t + z) ≡ (a * v + f) * t + z
     regroup a f z u v t e = omega (arith, ap (λ n. a * n) e, mul_assoc a v t, add-mul (a * v) f t)
@@ -55,9 +49,9 @@ one_bit xs from = zero-add (bit xs (from + 0)) ∙ ap (bit xs) (add-zero from)
 pub first_bit : (xs : List ℕ) (from : ℕ) → field xs from 20 / 2 ^ 19 ≡ bit xs from
 first_bit xs from =
     ap (λ n. n / 2 ^ 19) (field_join xs from 1 19)
-    ∙ shr_high (field xs from 1) 19 (field xs (from + 1) 19) (field_small xs (from + 1) 19)
+    ∙ shr_high (field xs from 1) 19 (field xs (from + 1) 19) (field_below xs (from + 1) 19)
     ∙ one_bit xs from
 
 pub rest_bits : (xs : List ℕ) (from : ℕ) → field xs from 20 % 2 ^ 19 ≡ field xs (from + 1) 19
 rest_bits xs from =
-    ap (λ n. n % 2 ^ 19) (field_join xs from 1 19) ∙ mod_low (field xs from 1) 19 (field xs (from + 1) 19) (field_small xs (from + 1) 19)
+    ap (λ n. n % 2 ^ 19) (field_join xs from 1 19) ∙ mod_low (field xs from 1) 19 (field xs (from + 1) 19) (field_below xs (from + 1) 19)

@@ -1,13 +1,15 @@
 // The tests of a zone record, in ascending number.
 ghost use Rattle.entries.specs.ZoneRecords.{is_present, marked_bound, not_zero, place_missing, some_bound, some_in_row, some_token, spare_set, unclean_bound, unclean_entry, unused_place, zone_fault};
 ghost use Rattle.records.specs.NetRecords.{tested};
-ghost use Rattle.std.specs.Prelude.{◌≡◌, ℕ, Bool};
+ghost use Rattle.std.specs.List.{list_any, range_with_len};
+ghost use Rattle.std.specs.Prelude.{◌≡◌, ◌-◌, ℕ, Bool};
 
 use crate::bits::bits;
 use crate::entry::Entry;
 use crate::fault::EntryRefusal;
-use crate::zone::{MOST_TOKENS, ZoneRecord};
+use crate::zone::ZoneRecord;
 use bounds::Bound;
+use zones::MOST_TOKENS;
 
 pub const ZONE_SIZE: usize = 192;
 
@@ -24,19 +26,27 @@ fn unclean_entry(present: bool, entry: Entry) -> bool
     }
 }
 
+// Whether the test holds of some number, from `first` to the last token's.
+fn some_from<F: Fn(u8) -> bool>(first: u8, test: F) -> bool
+    requires { F.IsAlwaysCallable test }
+    ensures { (p : ℕ → Bool) → ((n : ℕ) (b : Bool) → F.post test n b → b ≡ p n) → result ≡ list_any p (range_with_len first (9 - first)) }
+{
+    (first..POINTS).any(|number| test(number))
+}
+
 // Whether the test holds of some token.
 fn some_token<F: Fn(u8) -> bool>(test: F) -> bool
     requires { F.IsAlwaysCallable test }
     ensures { (p : ℕ → Bool) → ((t : ℕ) (b : Bool) → F.post test t b → b ≡ p t) → result ≡ some_token p }
 {
-    (1..POINTS).any(|token| test(token))
+    some_from(1, test)
 }
 
 fn some_in_row<F: Fn(u8, u8) -> bool>(test: &F, j: u8) -> bool
     requires { F.IsAlwaysCallable test.now }
     ensures { (p : ℕ → ℕ → Bool) → ((j i : ℕ) (b : Bool) → F.post test.now j i b → b ≡ p j i) → result ≡ some_in_row p j }
 {
-    (0..POINTS).any(|i| j != i && test(j, i))
+    some_from(0, |i| j != i && test(j, i))
 }
 
 // Whether the test holds of the bound of some two points.
@@ -44,7 +54,7 @@ fn some_bound<F: Fn(u8, u8) -> bool>(test: F) -> bool
     requires { F.IsAlwaysCallable test }
     ensures { (p : ℕ → ℕ → Bool) → ((j i : ℕ) (b : Bool) → F.post test j i b → b ≡ p j i) → result ≡ some_bound p }
 {
-    (0..POINTS).any(|j| some_in_row(&test, j))
+    some_from(0, |j| some_in_row(&test, j))
 }
 
 fn takes_marks<B: Bound>() -> bool

@@ -5,8 +5,7 @@ ghost use Rattle.entries.specs.ZoneRecords.{tokens_of, place_at, entry_bound, bo
 use crate::bits::bits;
 use crate::entry::Entry;
 use bounds::{Bound, bound_of};
-
-pub(crate) const MOST_TOKENS: u8 = 8;
+use zones::MOST_TOKENS;
 
 // Any bytes read as a zone record; `check` says whether they are one.
 #[derive(Clone, Copy)]

@@ -9,8 +9,7 @@ use Rattle.cells.specs.Settling.{Settles}
 use Rattle.cells.proofs.Grid.{length-written}
 use Rattle.cells.proofs.Loading.{formed}
 use Rattle.entries.specs.ZoneRecords.{bound_at, tokens_of, zone_of}
-use Rattle.entries.proofs.Clean.{places_length}
-use Rattle.entries.proofs.Sizes.{zone_small}
+use Rattle.entries.proofs.Sizes.{places_length, zone_small}
 
 module _ {B : Type 0} (kind : Kind B) (bytes : List ℕ) (few : tokens_of bytes ≤ 8) (tokens : ℕ) (is : tokens ≡ tokens_of bytes) (before loaded after : List B) (loads : loaded ≡ written (counted kind (bound_at kind bytes)) (tokens + 1) before) (answer : Bool) (settles : Settles kind (tokens + 1) (take (tokens + 1) nine_points) loaded after answer) where
   pub record_kept : length after ≡ length before

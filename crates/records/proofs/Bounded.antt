@@ -1,5 +1,5 @@
 -- The net that sound bytes say keeps the limits of every net. Assumes nothing.
-use Rattle.std.proofs.Common.{◌≡◌, ℕ, zero, suc, ◌+◌, ◌*◌, ◌%◌, ◌^◌, ◌<◌, ◌≤◌, Bool, true, false, cond, not, ◌&&◌, ◌||◌, ltb, leb, List, [], ◌∷◌, map, length, take, drop, pos, neg_ℤ, nat_abs, Some, None, Option, sym, refl, ap, ◌∙◌, pow-suc, arith, length-take}
+use Rattle.std.proofs.Common.{◌≡◌, ℕ, zero, suc, ◌+◌, ◌<◌, ◌≤◌, Bool, true, false, cond, not, ◌&&◌, ◌||◌, ltb, leb, List, [], ◌∷◌, map, length, take, drop, pos, neg_ℤ, nat_abs, Some, None, Option, sym, refl, ap, ◌∙◌, arith, length-take}
 use Rattle.std.proofs.lemmas.List.{length-map}
 use Rattle.std.proofs.lemmas.Bool.{not-false, leb-false, le-leb, le-ltb, lt-ltb, or_parts, cond-true, cond-false}
 use Rattle.bounds.specs.Kinds.{Kind, largest_size}
@@ -12,20 +12,14 @@ use Rattle.records.specs.Bits.{field, flag}
 use Rattle.records.specs.NetBytes.{upper_bound, slot_arc, record_transition, transitions_of, net_of}
 use Rattle.records.specs.NetRecords.{in_order, header_of, transition_record, is_used, slot_has, some_slot_has, record_has, transition_refusal, transition_fault, transitions_fault, sound}
 use Rattle.records.specs.Slots.{end_at, slot_of, slots_of, end_limit, used_has, unused_has}
+use Rattle.records.proofs.Fields.{field_below}
+use Rattle.records.proofs.Stores.{length_transitions}
 use Rattle.records.proofs.Clean.{or_none, refusal_none, at_none, all_clear, parts, few_transitions, refusal_counts}
 use Rattle.records.specs.declared.fault.NetRefusal.TheVariants.{NoSuchPlace, EmptyRange}
 use Rattle.records.specs.declared.header.NetHeader.{NetHeader}
 use Rattle.records.specs.declared.slot.End.{End}
 use Rattle.records.specs.declared.slot.Slot.{Slot}
 use Rattle.records.specs.declared.transition.TransitionRecord.{TransitionRecord}
-
--- ---- fields
-one_more : (f n p q : ℕ) → f < p → q ≡ p * 2 → 2 * f + n % 2 < q
-one_more f n p q h e = omega arith
-
-pub field_below : (xs : List ℕ) (from w : ℕ) → field xs from w < 2 ^ w
-field_below xs from zero = omega arith
-field_below xs from (suc w) = one_more (field xs from w) _ (2 ^ w) (2 ^ suc w) (field_below xs from w) (pow-suc 2 w)
 
 end_small : (n : ℕ) → n < 32768 → n ≤ largest_end
 end_small n h = omega arith
@@ -141,10 +135,6 @@ module _ {B : Type 0} (kind : Kind B) where
       let both = or_none (transition_fault h at bytes) (transitions_fault h n (at + 1) (drop 41 bytes)) e in
       (transition_limits h (take 41 bytes) (at_none at _ both.0), every_transition h n (at + 1) (drop 41 bytes) both.1)
 
-  transitions_count : (n : ℕ) (bytes : List ℕ) → length (transitions_of kind n bytes) ≡ n
-  transitions_count zero bytes = refl
-  transitions_count (suc n) bytes = ap suc (transitions_count n (drop 41 bytes))
-
 count_by : (m n : ℕ) → m ≡ n → n ≤ 64 → m ≤ 64
 count_by m n e h = omega arith
 
@@ -158,6 +148,6 @@ sound_limits kind bytes e =
     record {
       some_place = places.0;
       few_places = places.1;
-      few_transitions = count_by _ h.transitions (transitions_count kind h.transitions (drop 4 bytes)) (few_transitions bytes e);
+      few_transitions = count_by _ h.transitions (length_transitions kind h.transitions (drop 4 bytes)) (few_transitions bytes e);
       transitions = every_transition kind h h.transitions 1 (drop 4 bytes) (parts bytes e).1;
     }

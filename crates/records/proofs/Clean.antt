@@ -91,15 +91,15 @@ module _ (bytes : List ℕ) (clean : sound bytes ≡ true) where
   pub parts : (header_fault bytes ≡ None) × (transitions_fault (header_of (take 4 bytes)) (header_of (take 4 bytes)).transitions 1 (drop 4 bytes) ≡ None)
   parts = or_none (header_fault bytes) _ (sound_clean bytes clean)
 
-  header_clean : (4 ≤ length (take 4 bytes)) × (find (header_has (take 4 bytes)) in_order ≡ None)
-  header_clean = sized_none 4 (take 4 bytes) (header_has (take 4 bytes)) (at_none 0 _ parts.0)
+  header_none : (4 ≤ length (take 4 bytes)) × (find (header_has (take 4 bytes)) in_order ≡ None)
+  header_none = sized_none 4 (take 4 bytes) (header_has (take 4 bytes)) (at_none 0 _ parts.0)
 
   pub header_whole : 4 ≤ length bytes
-  header_whole = omega (arith, header_clean.0, length-take 4 bytes)
+  header_whole = omega (arith, header_none.0, length-take 4 bytes)
 
   pub few_transitions : (header_of (take 4 bytes)).transitions ≤ 64
   few_transitions =
-      let outside = (all_clear (header_has (take 4 bytes)) header_clean.1).in_limits in
+      let outside = (all_clear (header_has (take 4 bytes)) header_none.1).in_limits in
       let b = field (take 4 bytes) 8 7 in
       ltb-false 64 b (or_parts (eqb (field (take 4 bytes) 0 2) 3) (ltb 64 b) outside).1
 

@@ -12,6 +12,13 @@ use Rattle.records.specs.declared.slot.End.{End}
 use Rattle.records.specs.declared.slot.Slot.{Slot}
 use Rattle.records.specs.declared.transition.TransitionRecord.{TransitionRecord}
 
+-- a field is below what its bits can write
+pub field_below : (xs : List ℕ) (from w : ℕ) → field xs from w < 2 ^ w
+field_below xs from zero = omega arith
+field_below xs from (suc w) =
+    let last : bit xs (from + w) < 2 = omega arith in
+    omega (arith, field_below xs from w, pow-suc 2 w)
+
 -- the bits of one byte
 byte_bit : (xs : List ℕ) (i p : ℕ) → p < 8 → bit xs (8 * i + p) ≡ get_or xs i 0 / 2 ^ (7 - p) % 2
 byte_bit xs i p h =
@@ -124,7 +131,11 @@ counted Input bytes = refl
 counted Output bytes = refl
 
 -- a transition record whose counts are those of the first byte
-pub record_fields : (bytes : List ℕ) (n inputs outputs : ℕ) (slots : List Slot) → n ≡ get_or bytes 0 0 → inputs ≡ side_count Input (transition_record (n ∷ [])) → outputs ≡ side_count Output (transition_record (n ∷ [])) → slots ≡ slots_of 8 (drop 1 bytes) → ◌≡◌ {A = TransitionRecord} (record { inputs = inputs; outputs = outputs; spare = n % 4; slots = slots }) (transition_record bytes)
+pub record_fields : (bytes : List ℕ) (n inputs outputs : ℕ) (slots : List Slot) → n ≡ get_or bytes 0 0
+    → inputs ≡ side_count Input (transition_record (n ∷ []))
+    → outputs ≡ side_count Output (transition_record (n ∷ []))
+    → slots ≡ slots_of 8 (drop 1 bytes)
+    → ◌≡◌ {A = TransitionRecord} (record { inputs = inputs; outputs = outputs; spare = n % 4; slots = slots }) (transition_record bytes)
 record_fields bytes n inputs outputs slots first i o e =
     let first_count : (side : Side) → side_count side (transition_record (n ∷ [])) ≡ side_count side (transition_record bytes) = λ side. ap (λ m. side_count side (transition_record (m ∷ []))) first ∙ counted side bytes in
     let inputs' = i ∙ first_count Input in

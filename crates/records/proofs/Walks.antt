@@ -3,7 +3,7 @@ use Rattle.std.proofs.Common.{◌≡◌, ℕ, suc, ◌+◌, ◌-◌, ◌<◌, �
 use Rattle.std.proofs.lemmas.Bool.{lt-ltb, cond-true}
 use Rattle.std.proofs.lemmas.Result.{err_from_is_err_and}
 use Rattle.std.specs.List.{find}
-use Rattle.records.specs.NetRecords.{in_order, at_record, header_refusal, transition_record, record_has, transition_refusal, or_else, header_of, header_fault, transition_fault, transitions_fault, net_fault, tested}
+use Rattle.records.specs.NetRecords.{in_order, at_record, transition_record, record_has, transition_refusal, or_else, header_of, header_fault, transition_fault, transitions_fault, net_fault, tested}
 use Rattle.records.specs.Refusals.{NetFault}
 use Rattle.records.specs.declared.fault.NetRefusal.{NetRefusal}
 use Rattle.records.specs.declared.fault.NetRefusal.TheVariants.{BytesMissing}

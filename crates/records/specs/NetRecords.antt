@@ -35,6 +35,7 @@ header_has bytes NoSuchPlace = false
 header_has bytes MarkUnderPlain = false
 header_has bytes EmptyRange = false
 
+-- what is wrong with a header's bytes
 abbrev pub header_refusal : List ℕ → Option NetRefusal
 header_refusal bytes = sized 4 bytes (header_has bytes)
 
@@ -67,6 +68,7 @@ counts_have EmptyRange r = false
 abbrev pub record_has : NetHeader → TransitionRecord → NetRefusal → Bool
 record_has h r refusal = counts_have refusal r || some_slot_has refusal h r 0 r.slots
 
+-- and with a transition's
 unfoldable pub transition_refusal : NetHeader → List ℕ → Option NetRefusal
 transition_refusal h bytes = sized 41 bytes (record_has h (transition_record bytes))
 

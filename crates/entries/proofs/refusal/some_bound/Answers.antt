@@ -1,9 +1,7 @@
-use Rattle.std.proofs.Common.{refl, rules, tests}
-use Rattle.std.proofs.lemmas.Iterator.{YieldsList-from_range}
-use Rattle.std.proofs.lemmas.Iterator.Search.{any_from_yields_List}
+use Rattle.std.proofs.Common.{rules, tests}
 use Rattle.entries.specs.ZoneRecords.{some_bound, some_in_row}
 use Rattle.entries.proofs.refusal.some_bound.Goals as goal
 
 pub returns : goal.returns
 unfolding some_bound
-returns g c = λ p gives. any_from_yields_List (some_in_row p) _ _ c.any.result c.any.ensures.ran (YieldsList-from_range 0 9 9 refl refl) (λ x b q k. search (rules, tests, gives))
+returns g c = λ p gives. c.some_from.ensures (some_in_row p) (λ j b q. search (rules, tests, gives))

@@ -35,6 +35,7 @@ fn some_from<F: Fn(u8) -> bool>(first: u8, test: F) -> bool
 }
 
 // Whether the test holds of some token.
+#[tactic(auto, unfolding(crate::specs::ZoneRecords::some_token))]
 fn some_token<F: Fn(u8) -> bool>(test: F) -> bool
     requires { F.IsAlwaysCallable test }
     ensures { (p : ℕ → Bool) → ((t : ℕ) (b : Bool) → F.post test t b → b ≡ p t) → result ≡ some_token p }
@@ -50,6 +51,7 @@ fn some_in_row<F: Fn(u8, u8) -> bool>(test: &F, j: u8) -> bool
 }
 
 // Whether the test holds of the bound of some two points.
+#[tactic(auto, unfolding(crate::specs::ZoneRecords::some_bound))]
 fn some_bound<F: Fn(u8, u8) -> bool>(test: F) -> bool
     requires { F.IsAlwaysCallable test }
     ensures { (p : ℕ → ℕ → Bool) → ((j i : ℕ) (b : Bool) → F.post test j i b → b ≡ p j i) → result ≡ some_bound p }

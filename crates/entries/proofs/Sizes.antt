@@ -6,7 +6,7 @@ use Rattle.std.proofs.lemmas.Bool.{cond_both, ltb-true, ltb-false, and_parts, ca
 use Rattle.bounds.specs.Kinds.{Kind, Named, bound_of}
 use Rattle.records.proofs.Fields.{field_below}
 use Rattle.zones.specs.Zones.{SizedZone}
-use Rattle.entries.specs.ZoneRecords.{tokens_of, place_at, signed, limit_of, limit, number_at, mark_at, entry_at, entry_start, entry_bound, bound_at, zone_of}
+use Rattle.entries.specs.ZoneRecords.{tokens_of, place_at, signed, limit_of, limit, number_at, mark_at, entry_at, entry_start, entry_bound, zone_of}
 
 -- no limit, or a number within the limits of a kind
 abbrev pub Small : Option ℤ → Type 0
@@ -42,14 +42,11 @@ module _ {B : Type 0} (kind : Kind B) where
   limit_made mark n o e small =
       cond-true (leb (nat_abs n) 262143) (kind.number n (mark && kind.marks)) kind.no_limit (le-leb (nat_abs n) 262143 (subst Small e small)) ∙ ap (limit kind mark) (sym e)
 
-  pub bound_small : (bytes : List ℕ) (j i : ℕ) → kind.size (bound_at kind bytes j i) ≤ 262143
-  bound_small bytes j i =
+  pub zone_small : (bytes : List ℕ) → SizedZone kind 262143 (zone_of kind bytes)
+  zone_small bytes j i _ _ =
       cond_both (eqb j i) kind.zero (cond (leb j 8 && leb i 8) (entry_bound kind (entry_at bytes j i)) kind.no_limit) (λ b. kind.size b ≤ 262143)
       (λ _. omega (arith, kind.zero_size))
       (λ _. cond_both (leb j 8 && leb i 8) (entry_bound kind (entry_at bytes j i)) kind.no_limit (λ b. kind.size b ≤ 262143) (λ _. entry_small (mark_at bytes j i) (number_at bytes j i) (number_small bytes j i)) (λ _. omega (arith, kind.no_limit_size)))
-
-  pub zone_small : (bytes : List ℕ) → SizedZone kind 262143 (zone_of kind bytes)
-  zone_small bytes j i _ _ = bound_small bytes j i
 
   pub places_length : (bytes : List ℕ) → tokens_of bytes ≤ 8 → length (zone_of kind bytes).places ≡ tokens_of bytes
   places_length bytes few = length-map-range_with_len (place_at bytes) 1 (min (tokens_of bytes) 8) ∙ omega arith

@@ -6,9 +6,11 @@ ghost use Rattle.cells.specs.Cells.{in_page, written};
 use bounds::Bound;
 use pages::draft::cell;
 use pages::fill::fill;
-use pages::tokens::MOST_TOKENS;
+use zones::MOST_TOKENS;
 
 const PAGE_CELLS: usize = 81;
+
+const PAGE_PLACES: usize = MOST_TOKENS as usize;
 
 // Cells and places are lent, each as one slice for the whole book.
 #[derive(Clone, Copy)]
@@ -39,7 +41,7 @@ impl<'a, 'b, B: Bound> Book<'a, 'b, B> {
         ensures { Opened self.now.cells.now self.now.places.now number tokens result }
     {
         let cells = part(self.cells, PAGE_CELLS, number)?;
-        let all_places = part(self.places, MOST_TOKENS, number)?;
+        let all_places = part(self.places, PAGE_PLACES, number)?;
         let places = all_places.get(..usize::from(tokens))?;
         Some(Page { cells, places })
     }
@@ -63,7 +65,7 @@ impl<'a, 'b, B: Bound> Page<'a, 'b, B> {
     pub fn load(&self, draft: &mut [B])
         ensures { draft.new ≡ written (in_page B.Bound.kind self.now.cells.now) (page_points self.now.places.now) draft.old }
     {
-        if self.places.len() <= MOST_TOKENS {
+        if self.places.len() <= PAGE_PLACES {
             let points = self.places.len() as u8 + 1;
             fill(draft, points, |j, i| self.bound(j, i));
         }

@@ -42,14 +42,14 @@ module _ {B : Type 0} (kind : Kind B) where
     narrowed_answer places before after work matched true h = h
     narrowed_answer places before after work matched false h = firing_void kind places before work t net_places limits ms matched h
 
-    pub narrowed_all : (tokens : ℕ) (before narrow after : List B) (pivots : List ℕ) (answer : Bool) → narrow ≡ matched_cells kind t.outputs ms before → pivots ≡ 0 ∷ sifted true ms 1 tokens → Settles kind (tokens + 1) pivots narrow after answer → Narrowed kind t ms tokens before after answer
-    narrowed_all tokens before narrow after pivots answer is which settles =
+    pub narrowed_all : (places : List ℕ) (before narrow after : List B) (pivots : List ℕ) (answer : Bool) → narrow ≡ matched_cells kind t.outputs ms before → pivots ≡ 0 ∷ sifted true ms 1 (length places) → Settles kind (length places + 1) pivots narrow after answer → Narrowed kind t ms places before after answer
+    narrowed_all places before narrow after pivots answer is which settles =
         record {
           kept = settles.kept ∙ ap length is ∙ length_matched kind t.outputs ms before;
-          answered = λ places count work matched.
-              let e : tokens + 1 ≡ suc (length places) = omega (arith, count) in
+          answered = λ work matched.
+              let e : length places + 1 ≡ suc (length places) = omega arith in
               let s : Settles kind (suc (length places)) (0 ∷ sifted true ms 1 (length places)) (matched_cells kind t.outputs ms before) after answer =
-              subst (λ c. Settles kind (suc (length places)) (0 ∷ sifted true ms 1 (length places)) c after answer) is (subst (λ ps. Settles kind (suc (length places)) ps narrow after answer) (which ∙ ap (λ m. 0 ∷ sifted true ms 1 m) (sym count)) (subst (λ m. Settles kind m pivots narrow after answer) e settles)) in
+              subst (λ c. Settles kind (suc (length places)) (0 ∷ sifted true ms 1 (length places)) c after answer) is (subst (λ ps. Settles kind (suc (length places)) ps narrow after answer) which (subst (λ m. Settles kind m pivots narrow after answer) e settles)) in
               narrowed_answer places before after work matched answer (s.answered (firing_ready kind places before work t net_places limits ms matched));
         }
 
@@ -69,15 +69,15 @@ module _ {B : Type 0} (kind : Kind B) where
         }
 
   module _ (t : Transition B) (ms : List ℕ) where
-    pub fired_void : (places : List ℕ) (before after : List B) → Narrowed kind t ms (length places) before after false → FiredBack kind t ms places before after None
+    pub fired_void : (places : List ℕ) (before after : List B) → Narrowed kind t ms places before after false → FiredBack kind t ms places before after None
     fired_void places before after narrowed =
-        record { kept = narrowed.kept; answered = λ work matched. narrowed.answered places refl work matched }
+        record { kept = narrowed.kept; answered = narrowed.answered }
 
-    pub fired_some : (places : List ℕ) (before closed after : List B) (tokens : ArrayVec ℕ) → Narrowed kind t ms (length places) before closed true → Replaced kind t ms places closed after tokens.items → FiredBack kind t ms places before after (Some tokens)
+    pub fired_some : (places : List ℕ) (before closed after : List B) (tokens : ArrayVec ℕ) → Narrowed kind t ms places before closed true → Replaced kind t ms places closed after tokens.items → FiredBack kind t ms places before after (Some tokens)
     fired_some places before closed after tokens narrowed replaced =
         record {
           kept = replaced.kept ∙ narrowed.kept;
-          answered = λ work matched. replaced.answered before work matched (narrowed.kept ∙ work.full) (narrowed.answered places refl work matched);
+          answered = λ work matched. replaced.answered before work matched (narrowed.kept ∙ work.full) (narrowed.answered work matched);
         }
 
     pub fired_not : (places : List ℕ) (before : List B) → 8 < length places → FiredBack kind t ms places before before None

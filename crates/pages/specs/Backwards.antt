@@ -36,9 +36,9 @@ abbrev pub NarrowedAnswer : {B : Type 0} → Kind B → Transition B → List �
 NarrowedAnswer kind t matching places before after true = Consistent kind (suc (length places)) (in_draft kind (matched_cells kind t.outputs matching before)) (in_draft kind after)
 NarrowedAnswer kind t matching places before after false = Void kind t matching (draft_zone kind places before)
 
-pub record Narrowed {B : Type 0} (kind : Kind B) (t : Transition B) (matching : List ℕ) (tokens : ℕ) (before after : List B) (answer : Bool) : Type 0 where
+pub record Narrowed {B : Type 0} (kind : Kind B) (t : Transition B) (matching : List ℕ) (places : List ℕ) (before after : List B) (answer : Bool) : Type 0 where
   pub kept : length after ≡ length before
-  pub answered : (places : List ℕ) → length places ≡ tokens → Workable kind places before → matches places t.outputs matching ≡ true → NarrowedAnswer kind t matching places before after answer
+  pub answered : Workable kind places before → matches places t.outputs matching ≡ true → NarrowedAnswer kind t matching places before after answer
 
 -- the matched tokens are taken off that normal form, and the input arcs' tokens added
 pub record Replaced {B : Type 0} (kind : Kind B) (t : Transition B) (matching : List ℕ) (places : List ℕ) (closed after : List B) (answer : List ℕ) : Type 0 where

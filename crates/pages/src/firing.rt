@@ -10,17 +10,20 @@ ghost use Rattle.zones.specs.Predecessors.{digits_of};
 use crate::bytes::byte;
 use crate::draft::{add_token, narrow, take_off};
 use crate::settle::{Inconsistent, settle};
-use crate::tokens::{MOST_TOKENS, Tokens, sift, some_tokens};
+use crate::tokens::{Tokens, sift, some_tokens};
 use bounds::Bound;
 use matchings::{arc_count, digits};
 use nets::{NetStore, Side};
+use zones::MOST_TOKENS;
 
-// A transition of a net, and for each of its output arcs the token that is matched with it, or 0.
+// A transition of a net, for each of its output arcs the token that is matched with it, or 0, and the places of a zone's tokens.
 #[derive(Drop)]
 struct Firing<'a, N> {
     store: &'a N,
     transition: u8,
     matching: &'a [u8],
+    places: &'a [u8],
+    ghost few: { length places.now ≤ 8 },
 }
 
 impl<'a, N> Firing<'a, N> {
@@ -49,13 +52,13 @@ impl<'a, N> Firing<'a, N> {
     }
 
     // Narrows every matched token and settles the draft.
-    fn narrow_all<B: Bound>(&self, cells: &mut [B], tokens: u8) -> Result<(), Inconsistent>
+    fn narrow_all<B: Bound>(&self, cells: &mut [B]) -> Result<(), Inconsistent>
     where
         N: NetStore<B>,
-        requires { tokens ≤ 8 }
-        ensures { Narrowed B.Bound.kind (transition_of (N.NetStore.net self.now.store.now) self.now.transition) self.now.matching.now tokens cells.old cells.new (is_ok result) }
+        ensures { Narrowed B.Bound.kind (transition_of (N.NetStore.net self.now.store.now) self.now.transition) self.now.matching.now self.now.places.now cells.old cells.new (is_ok result) }
     {
         self.store.keeps_limits();
+        let tokens = self.places.len() as u8;
         self.narrow_matched(cells);
         settle(cells, tokens + 1, &sift(tokens, self.matching, true))
     }
@@ -76,16 +79,15 @@ impl<'a, N> Firing<'a, N> {
     }
 
     // Takes the matched tokens off, and adds those of the input arcs.
-    fn replace<B: Bound>(&self, cells: &mut [B], places: &[u8]) -> Tokens
+    fn replace<B: Bound>(&self, cells: &mut [B]) -> Tokens
     where
         N: NetStore<B>,
-        requires { length places.now ≤ 8 }
-        ensures { Replaced B.Bound.kind (transition_of (N.NetStore.net self.now.store.now) self.now.transition) self.now.matching.now places.now cells.old cells.new result.items }
+        ensures { Replaced B.Bound.kind (transition_of (N.NetStore.net self.now.store.now) self.now.transition) self.now.matching.now self.now.places.now cells.old cells.new result.items }
     {
         self.store.keeps_limits();
-        let kept = sift(places.len() as u8, self.matching, false);
+        let kept = sift(self.places.len() as u8, self.matching, false);
         take_off(cells, &kept, kept.len() as u8);
-        let mut tokens = some_tokens(places, &kept[1..]);
+        let mut tokens = some_tokens(self.places, &kept[1..]);
         self.add_inputs(cells, &mut tokens);
         tokens
     }
@@ -102,7 +104,7 @@ pub fn firing_predecessor<B: Bound, N: NetStore<B>>(
 ) -> Option<Tokens>
     ensures { FiredBack B.Bound.kind (transition_of (N.NetStore.net store.now) transition) (digits_of (arcs_of (N.NetStore.net store.now) transition Output) matching) places.now cells.old cells.new result }
 {
-    if places.len() > MOST_TOKENS {
+    if places.len() > usize::from(MOST_TOKENS) {
         return None;
     }
     let arcs = usize::from(arc_count(store, transition, Side::Output));
@@ -110,7 +112,8 @@ pub fn firing_predecessor<B: Bound, N: NetStore<B>>(
         store,
         transition,
         matching: &digits(matching)[..arcs],
+        places,
     };
-    firing.narrow_all(cells, places.len() as u8).ok()?;
-    Some(firing.replace(cells, places))
+    firing.narrow_all(cells).ok()?;
+    Some(firing.replace(cells))
 }

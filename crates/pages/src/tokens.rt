@@ -8,10 +8,7 @@ use crate::bytes::place_of;
 use arrayvec::ArrayVec;
 use matchings::is_among;
 
-// The tokens of a listed zone; a predecessor has up to 12.
-pub const MOST_TOKENS: usize = 8;
-
-// The place of each token of a zone, in fixed memory.
+// The place of each token of a zone, in fixed memory; a predecessor has up to 12.
 pub type Tokens = ArrayVec<u8, 12>;
 
 // One token more, in this place; a thirteenth is dropped.

@@ -2,7 +2,7 @@
 // A place outside the cells reads as no limit, and a write to it is dropped. The calls take the cells and the number of points
 // apart, since it is the caller who lends the cells, anew for each call.
 ghost use Rattle.std.specs.Prelude.{◌≡◌, ◌+◌, ◌*◌, slice_index_or};
-ghost use Rattle.cells.specs.Cells.{in_draft, put, lowered, relaxed_row, relaxed_cells, narrowed_cells, moved_row, picked_cells, linked, added_cells, column_least, delayed_cells};
+ghost use Rattle.cells.specs.Cells.{in_draft, put, lowered, relaxed_row, relaxed_cells, narrowed_cells, picked_cells, added_cells, column_least, delayed_cells};
 ghost use Rattle.walks.specs.Walks.{lesser as least_of};
 
 use crate::bytes::byte;

@@ -4,6 +4,9 @@ ghost use Rattle.std.specs.Prelude.{◌≡◌};
 
 use crate::made::MakeError;
 
+// How every kind writes that there is no limit.
+pub const NO_LIMIT_TEXT: &str = "no limit";
+
 pub trait Bound: Copy {
     ghost kind: { Kind Self };
 

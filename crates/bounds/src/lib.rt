@@ -9,7 +9,7 @@ pub mod marked;
 pub mod plain;
 pub mod range;
 
-pub use bound::Bound;
+pub use bound::{Bound, NO_LIMIT_TEXT};
 pub use capped::LARGEST_SIZE;
 pub use made::{LARGEST_NUMBER, MakeError, bound_of, within_limits};
 pub use marked::{MarkedBound, MarkedNumber};

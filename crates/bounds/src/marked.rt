@@ -5,7 +5,7 @@ ghost use Rattle.bounds.specs.MarkedKind.{marked_kind, marked_limit};
 ghost use Rattle.bounds.specs.Texts.{limit_text};
 ghost use Rattle.std.specs.Prelude.{◌≡◌, Some};
 
-use crate::bound::Bound;
+use crate::bound::{Bound, NO_LIMIT_TEXT};
 use crate::capped::capped_sum;
 use crate::made::{MakeError, within_limits};
 use std::fmt;
@@ -101,14 +101,13 @@ impl fmt::Display for MarkedNumber {
     }
 }
 
-// Each kind says this for itself: shared by crates it would be a public function, longer than its uses.
 impl fmt::Display for MarkedBound {
     ghost output = { λ b. Some (limit_text (marked_limit b.limit)) };
 
     fn fmt<W: fmt::Write>(&self, f: &mut fmt::Formatter<W>) -> fmt::Result {
         match self.limit {
             Some(limit) => write!(f, "{limit}"),
-            None => write!(f, "no limit"),
+            None => f.write_str(NO_LIMIT_TEXT),
         }
     }
 }

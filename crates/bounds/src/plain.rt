@@ -1,13 +1,9 @@
 // Plain bounds: a whole number, or no limit.
-ghost use Rattle.bounds.specs.Limits.{limit_strict};
-ghost use Rattle.bounds.specs.Limits.Limit.{number, unlimited};
-ghost use Rattle.bounds.specs.Codings.{Held};
-ghost use Rattle.std.proofs.lemmas.Bool.{false≢true};
-ghost use Rattle.bounds.specs.PlainKind.{kind_of_plain, plain_limit, plain_of};
+ghost use Rattle.bounds.specs.PlainKind.{plain_kind, plain_limit};
 ghost use Rattle.bounds.specs.Texts.{limit_text};
-ghost use Rattle.std.specs.Prelude.{◌≡◌, true, false, Some, None, refl};
+ghost use Rattle.std.specs.Prelude.{Some};
 
-use crate::bound::Bound;
+use crate::bound::{Bound, NO_LIMIT_TEXT};
 use crate::capped::capped_sum;
 use crate::made::{MakeError, within_limits};
 use std::fmt;
@@ -18,18 +14,7 @@ pub struct PlainBound {
 }
 
 impl Bound for PlainBound {
-    // These facts have names in proofs/PlainLaws.antt; a ghost member cites specs/ alone, so they are shown here once more.
-    ghost kind = { kind_of_plain (record {
-      back = elim [ Some c ↦ refl | None ↦ refl ];
-      reads = elim [
-        | number c s ↦ elim s as (λ s. Held false (number c s) → plain_limit (plain_of (number c s)) ≡ number c s) [
-          | true ↦ λ h. absurd (false≢true (h.takes refl))
-          | false ↦ λ h. refl
-        ]
-        | unlimited ↦ λ h. refl
-      ];
-      marked = elim [ Some c ↦ λ e. e | None ↦ λ e. e ];
-    }) };
+    ghost kind = { plain_kind };
 
     fn zero() -> PlainBound {
         PlainBound { limit: Some(0) }
@@ -74,7 +59,7 @@ impl fmt::Display for PlainBound {
     fn fmt<W: fmt::Write>(&self, f: &mut fmt::Formatter<W>) -> fmt::Result {
         match self.limit {
             Some(c) => write!(f, "{c}"),
-            None => write!(f, "no limit"),
+            None => f.write_str(NO_LIMIT_TEXT),
         }
     }
 }

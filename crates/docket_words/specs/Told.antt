@@ -5,8 +5,7 @@
 use Rattle.std.specs.Prelude.{◌≡◌, ℕ, zero, suc, ◌+◌, ◌*◌, Bool, true, false, cond, List, ◌++◌, length, take, drop, Some, None, Ok, Err, Option, Result, nat_le, nat_lt}
 use Rattle.bounds.specs.Kinds.{Kind}
 use Rattle.bounds.specs.MarkedKind.{marked_kind, marked_limit}
-use Rattle.bounds.proofs.PlainLaws.{plain_kind}
-use Rattle.bounds.specs.PlainKind.{plain_limit}
+use Rattle.bounds.specs.PlainKind.{plain_kind, plain_limit}
 use Rattle.bounds.specs.Texts.{limit_text}
 use Rattle.cells.specs.Cells.{in_draft}
 use Rattle.entries.specs.DocketRecords.{docket_header}

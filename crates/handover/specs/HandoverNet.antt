@@ -4,7 +4,7 @@ use Rattle.std.specs.Prelude.{ℕ, ◌≤◌, false, [], ◌∷◌, pos, neg_ℤ
 use Rattle.std.proofs.Common.{arith, sym}
 use Rattle.std.proofs.lemmas.Int.{ints}
 use Rattle.bounds.specs.Kinds.{Kind}
-use Rattle.bounds.proofs.PlainLaws.{plain_kind}
+use Rattle.bounds.specs.PlainKind.{plain_kind}
 use Rattle.bounds.specs.declared.plain.PlainBound.{PlainBound}
 use Rattle.bounds.specs.declared.range.Range.{Range}
 use Rattle.nets.proofs.Ranges.{closed_range}

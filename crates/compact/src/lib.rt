@@ -7,7 +7,7 @@ ghost use Rattle.bounds.specs.MarkedKind.{marked_limit};
 ghost use Rattle.compact.specs.CompactKind.{compact_kind, compact_limit, compact_of};
 ghost use Rattle.std.specs.Prelude.{◌≡◌, Some};
 
-use bounds::{Bound, LARGEST_SIZE, MakeError, MarkedNumber, within_limits};
+use bounds::{Bound, LARGEST_SIZE, MakeError, MarkedNumber, NO_LIMIT_TEXT, within_limits};
 use std::fmt;
 
 // No limit lies above every number.
@@ -91,7 +91,7 @@ impl fmt::Display for CompactBound {
     fn fmt<W: fmt::Write>(&self, f: &mut fmt::Formatter<W>) -> fmt::Result {
         match self.limit() {
             Some(limit) => write!(f, "{limit}"),
-            None => write!(f, "no limit"),
+            None => f.write_str(NO_LIMIT_TEXT),
         }
     }
 }

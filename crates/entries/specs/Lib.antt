@@ -2,3 +2,4 @@ pub mod DocketRecords
 pub mod Records
 pub mod Refusals
 pub mod ZoneRecords
+pub mod Vouchers

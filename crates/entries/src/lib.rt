@@ -8,4 +8,5 @@ pub mod fault;
 pub mod record;
 pub mod refusal;
 pub mod token;
+pub mod voucher;
 pub mod zone;

@@ -1,0 +1,9 @@
+// An item that is due.
+
+// A zone, a transition and a matching, by their numbers. Zone 0 is the target, and transition 0 a delay.
+#[derive(Clone, Copy, PartialEq, Eq, Debug)]
+pub struct Due {
+    pub zone: u8,
+    pub transition: u8,
+    pub matching: u16,
+}

@@ -1,5 +1,5 @@
 -- What follows an item: the next matching, else the next transition, else the next zone, else nothing. Assumes nothing.
-use Rattle.std.proofs.Common.{◌≡◌, ℕ, zero, suc, ◌+◌, ◌-◌, ◌<◌, ◌≤◌, Bool, true, false, cond, List, [], ◌∷◌, ◌++◌, map, length, Option, Some, None, sym, refl, ap, ◌∙◌, subst, ap₂, ⊎_elim, arith}
+use Rattle.std.proofs.Common.{◌≡◌, ℕ, zero, suc, ◌+◌, ◌-◌, ◌<◌, ◌≤◌, Bool, true, false, cond, List, [], ◌∷◌, ◌++◌, map, length, Some, None, refl, ap, ◌∙◌, ⊎_elim, arith}
 use Rattle.std.specs.List.{filter, flat_map}
 use Rattle.std.proofs.lemmas.Bool.{cases_lt}
 use Rattle.std.proofs.lemmas.List.{append_assoc}
@@ -9,7 +9,7 @@ use Rattle.nets.specs.declared.side.Side.TheVariants.{Output}
 use Rattle.zones.specs.Predecessors.{is_matching}
 use Rattle.zones.proofs.Arcs.{few_outputs}
 use Rattle.zones.proofs.Digits.{zero_matches}
-use Rattle.matchings.specs.Next.{Least, Next}
+use Rattle.matchings.specs.Next.{Next}
 use Rattle.dues.specs.Dues.{item, delay_item, target_item, numbers, matchings_from, firings_from, transitions_from, steps_due, zones_from, all_due, behind, due_after, Leads}
 use Rattle.dues.specs.declared.due.Due.{Due}
 use Rattle.dues.proofs.Lists.{numbers_first, numbers_none, every_number, every_filter}
@@ -57,7 +57,7 @@ module _ {B : Type 0} (places : List ℕ) (arcs : List (Arc B)) where
 
 module _ {B : Type 0} (net : Net B) (listed : List (List ℕ)) where
   -- ---- transitions and zones, by their numbers
-  transitions_step : (places : List ℕ) (z t : ℕ) → t < length net.transitions → transitions_from net places z (suc t) ≡ firings_from net places z (suc t) 0 ++ transitions_from net places z (suc (suc t))
+  pub transitions_step : (places : List ℕ) (z t : ℕ) → t < length net.transitions → transitions_from net places z (suc t) ≡ firings_from net places z (suc t) 0 ++ transitions_from net places z (suc (suc t))
   transitions_step places z t few =
       ap (flat_map (λ u. firings_from net places z u 0)) (numbers_first (suc t) (suc (length net.transitions)) (omega (arith, few)))
 
@@ -65,7 +65,7 @@ module _ {B : Type 0} (net : Net B) (listed : List (List ℕ)) where
   transitions_past places z t past =
       ap (flat_map (λ u. firings_from net places z u 0)) (numbers_none (suc t) (suc (length net.transitions)) (omega (arith, past)))
 
-  zones_step : (z : ℕ) → z < length listed → zones_from net listed (suc z) ≡ delay_item (suc z) ∷ behind net listed (suc z) 0 0
+  pub zones_step : (z : ℕ) → z < length listed → zones_from net listed (suc z) ≡ delay_item (suc z) ∷ behind net listed (suc z) 0 0
   zones_step z few = ap (flat_map (steps_due net listed)) (numbers_first (suc z) (suc (length listed)) (omega (arith, few)))
 
   zones_past : (z : ℕ) → length listed ≤ z → zones_from net listed (suc z) ≡ []

@@ -1,5 +1,5 @@
 -- What holds of a zone holds of any with the same places and bounds. Assumes nothing.
-use Rattle.std.proofs.Common.{◌≡◌, ℕ, zero, suc, ◌<◌, ◌≤◌, true, List, map, length, get_or, ap, ◌∙◌, subst, arith}
+use Rattle.std.proofs.Common.{◌≡◌, ℕ, zero, suc, ◌<◌, true, List, map, length, ap, subst, arith}
 use Rattle.bounds.specs.Kinds.{Kind}
 use Rattle.nets.specs.Nets.{Every, numbered}
 use Rattle.zones.specs.Safety.{Vouched}

@@ -1,5 +1,5 @@
 -- Answers to all that is due are a certificate. Assumes nothing.
-use Rattle.std.proofs.Common.{◌≡◌, ℕ, zero, suc, ◌<◌, ◌≤◌, true, ◌⊎◌, List, [], map, length, get_or, sym, ap, subst, inl, inr, ⊎_elim, arith}
+use Rattle.std.proofs.Common.{◌≡◌, ℕ, zero, suc, ◌<◌, ◌≤◌, true, ◌⊎◌, List, [], length, get_or, sym, subst, inl, inr, ⊎_elim, arith}
 use Rattle.std.proofs.lemmas.List.{get_or-map, length-map}
 use Rattle.bounds.specs.Kinds.{Kind}
 use Rattle.nets.specs.Markings.{Marking}
@@ -11,8 +11,8 @@ use Rattle.zones.specs.Zones.{Zone}
 use Rattle.zones.proofs.Arcs.{few_outputs}
 use Rattle.zones.proofs.Certificates.{certificates_are_sound}
 use Rattle.zones.proofs.Digits.{packs}
-use Rattle.dues.specs.Answered.{Answered, AllAnswered, VouchedFor, digits, places_of_all}
-use Rattle.dues.specs.Dues.{item, delay_item, target_item, numbers, matchings_from, firings_from, steps_due, all_due}
+use Rattle.dues.specs.Answered.{Answered, AllAnswered, places_of_all}
+use Rattle.dues.specs.Dues.{item, target_item, numbers, matchings_from, firings_from, steps_due, all_due}
 use Rattle.dues.specs.declared.due.Due.{Due}
 use Rattle.dues.proofs.Lists.{every_at, every_from, every_flat, every_map, every_number}
 use Rattle.dues.proofs.Order.{each_matching}

@@ -5,7 +5,7 @@
 --     firing    (z, t, n): the firing predecessor of listed zone z by transition t for matching n
 -- Zones and transitions are numbered from 1. A listed zone is given by the places of its tokens: nothing else of it tells what is due.
 -- Assumes nothing.
-use Rattle.std.specs.Prelude.{◌≡◌, ℕ, zero, suc, ◌-◌, List, [], ◌∷◌, ◌++◌, map, length, Some, None, Option}
+use Rattle.std.specs.Prelude.{◌≡◌, ℕ, zero, suc, ◌-◌, List, [], ◌∷◌, ◌++◌, map, length, drop, Some, None, Option}
 use Rattle.std.specs.List.{filter, flat_map, range_with_len}
 use Rattle.nets.specs.Nets.{Arc, Net, arcs_of, numbered}
 use Rattle.nets.specs.declared.side.Side.TheVariants.{Output}
@@ -64,3 +64,8 @@ due_after net listed d = behind net listed d.zone d.transition d.matching
 abbrev pub Leads : {B : Type 0} → Net B → (listed : List (List ℕ)) → Due → Option Due → Type 0
 Leads net listed d None = due_after net listed d ≡ []
 Leads net listed d (Some next) = due_after net listed d ≡ next ∷ due_after net listed next
+
+-- ---- with so many items answered from the first on, this one is to be answered next, or none is left
+abbrev pub Awaits : {B : Type 0} → Net B → (listed : List (List ℕ)) → ℕ → Option Due → Type 0
+Awaits net listed n None = drop n (all_due net listed) ≡ []
+Awaits net listed n (Some next) = drop n (all_due net listed) ≡ next ∷ due_after net listed next

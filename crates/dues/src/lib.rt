@@ -6,4 +6,4 @@ pub mod due;
 pub mod laws;
 
 pub use due::Due;
-pub use laws::answers_make_a_certificate;
+pub use laws::{answers_make_a_certificate, dues_keep_laws};

@@ -1,0 +1,55 @@
+// The item that is due after another: the next matching, else the next transition, else the next zone.
+ghost use Rattle.std.specs.Prelude.{◌≡◌, ◌+◌, ◌&&◌, ℕ, List, [], Some, None, length, if◌then◌else◌, nat_lt};
+ghost use Rattle.dues.specs.Dues.{Leads, item as the_item, delay_item};
+ghost use Rattle.items.specs.Next.{LaterMatching};
+ghost use Rattle.nets.specs.Nets.{numbered};
+
+use bounds::Bound;
+use dues::Due;
+use matchings::next_matching;
+use nets::NetStore;
+
+fn later_matching<B: Bound, N: NetStore<B>>(store: &N, places: &[u8], item: Due) -> Option<Due>
+    ensures { LaterMatching (N.NetStore.net store.now) places.now item result }
+{
+    if item.zone == 0 || item.transition == 0 {
+        return None;
+    }
+    let matching = next_matching(store, item.transition, places, item.matching)?;
+    Some(Due { matching, ..item })
+}
+
+// The first matching of every transition is 0.
+fn later_transition<B: Bound, N: NetStore<B>>(store: &N, item: Due) -> Option<Due>
+    ensures { result ≡ (if nat_lt 0 item.zone && nat_lt item.transition (length (N.NetStore.net store.now).transitions) then Some (the_item item.zone (item.transition + 1) 0) else None) }
+{
+    (item.zone != 0 && item.transition < store.transitions()).then(|| Due {
+        transition: item.transition + 1,
+        matching: 0,
+        ..item
+    })
+}
+
+fn later_zone(zones: u8, item: Due) -> Option<Due>
+    ensures { result ≡ (if nat_lt item.zone zones then Some (delay_item (item.zone + 1)) else None) }
+{
+    (item.zone < zones).then(|| Due {
+        zone: item.zone + 1,
+        transition: 0,
+        matching: 0,
+    })
+}
+
+// The item after this one, which need not be due itself; places are those of its zone, and none for the target.
+pub fn next_due<B: Bound, N: NetStore<B>>(
+    store: &N,
+    zones: u8,
+    places: &[u8],
+    item: Due,
+) -> Option<Due>
+    ensures { (listed : List (List ℕ)) → length listed ≡ zones → numbered listed item.zone [] ≡ places.now → Leads (N.NetStore.net store.now) listed item result }
+{
+    later_matching(store, places, item)
+        .or_else(|| later_transition(store, item))
+        .or_else(|| later_zone(zones, item))
+}

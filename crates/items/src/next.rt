@@ -1,5 +1,5 @@
 // The item that is due after another: the next matching, else the next transition, else the next zone.
-ghost use Rattle.std.specs.Prelude.{◌≡◌, ◌+◌, ◌&&◌, ℕ, List, [], Some, None, length, if◌then◌else◌, nat_lt};
+ghost use Rattle.std.specs.Prelude.{◌≡◌, ◌+◌, ◌≤◌, ◌&&◌, ℕ, List, [], Some, None, length, if◌then◌else◌, nat_lt};
 ghost use Rattle.dues.specs.Dues.{Leads, item as the_item, delay_item};
 ghost use Rattle.items.specs.Next.{LaterMatching};
 ghost use Rattle.nets.specs.Nets.{numbered};
@@ -40,15 +40,16 @@ fn later_zone(zones: u8, item: Due) -> Option<Due>
     })
 }
 
-// The item after this one, which need not be due itself; places are those of its zone, and none for the target.
+// The item after this one, which need not be due itself. The places are those of its zone; the target's do not matter.
 pub fn next_due<B: Bound, N: NetStore<B>>(
     store: &N,
     zones: u8,
     places: &[u8],
     item: Due,
 ) -> Option<Due>
-    ensures { (listed : List (List ℕ)) → length listed ≡ zones → numbered listed item.zone [] ≡ places.now → Leads (N.NetStore.net store.now) listed item result }
+    ensures { (listed : List (List ℕ)) → length listed ≡ zones → (1 ≤ item.zone → numbered listed item.zone [] ≡ places.now) → Leads (N.NetStore.net store.now) listed item result }
 {
+    store.keeps_limits();
     later_matching(store, places, item)
         .or_else(|| later_transition(store, item))
         .or_else(|| later_zone(zones, item))

@@ -1,7 +1,12 @@
 -- What holds of a zone holds of any with the same places and bounds. Assumes nothing.
-use Rattle.std.proofs.Common.{◌≡◌, ℕ, zero, suc, ◌<◌, true, List, map, length, ap, subst, arith}
+use Rattle.std.proofs.Common.{◌≡◌, ℕ, zero, suc, ◌<◌, true, cond, ◌&&◌, eqb, List, [], ◌∷◌, map, length, ap, subst, arith}
 use Rattle.bounds.specs.Kinds.{Kind}
-use Rattle.nets.specs.Nets.{Every, numbered}
+use Rattle.bounds.specs.declared.range.Range.{Range}
+use Rattle.nets.specs.Nets.{Arc, Every, Transition, numbered}
+use Rattle.walks.specs.Walks.{Matrix, lesser, counted}
+use Rattle.walks.proofs.Closed.{Same}
+use Rattle.walks.proofs.NormalForms.{same_back, same_from, same_negative}
+use Rattle.zones.specs.Predecessors.{DelayPredecessor, FiringPredecessor, Void, narrowed, narrowed_by, released}
 use Rattle.zones.specs.Safety.{Vouched}
 use Rattle.zones.specs.Vouching.{Vouches, Partner, partner}
 use Rattle.zones.specs.Zones.{Zone, points}
@@ -33,3 +38,55 @@ module _ {B : Type 0} (kind : Kind B) where
   pub vouched_same : (z w : Zone B) (listed : List (Zone B)) → SameZone z w → Vouched kind listed w → Vouched kind listed z
   vouched_same z w listed same vouched =
       some_map (λ v. (pairing : List ℕ) × Vouches kind v w pairing) (λ v. (pairing : List ℕ) × Vouches kind v z pairing) (λ v h. (h.0, vouches_same z w v h.0 same h.1)) listed vouched
+
+  -- ---- bounds that agree between the points still do after each step back
+  counted_same : (n : ℕ) (x y : Matrix B) → Same n x y → Same n (counted kind x) (counted kind y)
+  counted_same n x y same j i p q = ap (λ b. cond (eqb j i) kind.zero (cond (eqb j 0) (lesser kind b kind.zero) b)) (same j i p q)
+
+  released_same : (n : ℕ) (x y : Matrix B) → Same n x y → Same n (released kind x) (released kind y)
+  released_same n x y same j i p q = ap (λ b. cond (eqb j 0) kind.zero b) (same j i p q)
+
+  narrowed_same : (n token : ℕ) (range : Range B) (x y : Matrix B) → Same n x y → Same n (narrowed kind token range x) (narrowed kind token range y)
+  narrowed_same n token range x y same j i p q =
+      ap (λ b. cond (eqb j token && eqb i 0) (lesser kind b range.upper) (cond (eqb j 0 && eqb i token) (lesser kind b range.lower) b)) (same j i p q)
+
+  narrowed_by_same : (n : ℕ) (arcs : List (Arc B)) (ds : List ℕ) (x y : Matrix B) → Same n x y → Same n (narrowed_by kind arcs ds x) (narrowed_by kind arcs ds y)
+  narrowed_by_same n [] ds x y same = same
+  narrowed_by_same n (a ∷ arcs) [] x y same = same
+  narrowed_by_same n (a ∷ arcs) (zero ∷ ds) x y same = narrowed_by_same n arcs ds x y same
+  narrowed_by_same n (a ∷ arcs) (suc d ∷ ds) x y same =
+      narrowed_by_same n arcs ds (narrowed kind (suc d) a.range x) (narrowed kind (suc d) a.range y) (narrowed_same n (suc d) a.range x y same)
+
+  -- ---- what is known of y holds of z
+  module _ (z y : Zone B) (same : SameZone z y) where
+    -- y, with the places of z
+    abbrev placed : List ℕ → Zone B
+    placed places = record { places = places; bound = y.bound }
+
+    pub delay_same : (p : Zone B) → DelayPredecessor kind y p → DelayPredecessor kind z p
+    delay_same p h =
+        let moved : DelayPredecessor kind (placed z.places) p = subst (λ places. DelayPredecessor kind (placed places) p) same.places h in
+        record {
+          places = moved.places;
+          bounds = same_from kind (points z) _ _ p.bound (counted_same (points z) _ _ (released_same (points z) y.bound z.bound same.bounds)) moved.bounds;
+        }
+
+    module _ (t : Transition B) (matching : List ℕ) where
+      firing_bounds : Same (points z) (counted kind (narrowed_by kind t.outputs matching y.bound)) (counted kind (narrowed_by kind t.outputs matching z.bound))
+      firing_bounds = counted_same (points z) _ _ (narrowed_by_same (points z) t.outputs matching y.bound z.bound same.bounds)
+
+      pub void_same : Void kind t matching y → Void kind t matching z
+      void_same void =
+          let moved : Void kind t matching (placed z.places) = subst (λ places. Void kind t matching (placed places)) same.places void in
+          same_negative kind (points z) _ _ firing_bounds moved
+
+      pub firing_same : (p : Zone B) → FiringPredecessor kind t matching y p → FiringPredecessor kind t matching z p
+      firing_same p h =
+          let moved : FiringPredecessor kind t matching (placed z.places) p = subst (λ places. FiringPredecessor kind t matching (placed places) p) same.places h in
+          record {
+            possible = λ void. moved.possible (same_negative kind (points z) _ _ (same_back kind (points z) _ _ firing_bounds) void);
+            narrow = moved.narrow;
+            narrows = same_from kind (points z) _ _ moved.narrow firing_bounds moved.narrows;
+            places = moved.places;
+            bounds = moved.bounds;
+          }

@@ -1,15 +1,15 @@
 -- What holds of a zone holds of any with the same places and bounds. Assumes nothing.
-use Rattle.std.proofs.Common.{◌≡◌, ℕ, zero, suc, ◌<◌, true, cond, ◌&&◌, eqb, List, [], ◌∷◌, map, length, ap, subst, arith}
+use Rattle.std.proofs.Common.{◌≡◌, ℕ, zero, suc, ◌<◌, true, cond, ◌&&◌, eqb, List, [], ◌∷◌, map, length, sym, ap, subst, arith}
 use Rattle.bounds.specs.Kinds.{Kind}
 use Rattle.bounds.specs.declared.range.Range.{Range}
 use Rattle.nets.specs.Nets.{Arc, Every, Transition, numbered}
 use Rattle.walks.specs.Walks.{Matrix, lesser, counted}
 use Rattle.walks.proofs.Closed.{Same}
-use Rattle.walks.proofs.NormalForms.{same_back, same_from, same_negative}
+use Rattle.walks.proofs.NormalForms.{same_back, same_from, same_negative, same_sized, same_still, same_to}
 use Rattle.zones.specs.Predecessors.{DelayPredecessor, FiringPredecessor, Void, narrowed, narrowed_by, released}
 use Rattle.zones.specs.Safety.{Vouched}
 use Rattle.zones.specs.Vouching.{Vouches, Partner, partner}
-use Rattle.zones.specs.Zones.{Zone, points}
+use Rattle.zones.specs.Zones.{Zone, InNormalForm, SizedZone, points}
 use Rattle.zones.proofs.Certificates.{some_map}
 use Rattle.zones.proofs.Chosen.{every_getD}
 use Rattle.dues.specs.Answered.{SameZone}
@@ -90,3 +90,19 @@ module _ {B : Type 0} (kind : Kind B) where
             places = moved.places;
             bounds = moved.bounds;
           }
+
+  -- ---- and what is known of z holds of y
+  module _ (z y : Zone B) (same : SameZone z y) where
+    turned : Same (points z) z.bound y.bound
+    turned = same_back kind (points z) y.bound z.bound same.bounds
+
+    pub sized_same : (most : ℕ) → SizedZone kind most z → SizedZone kind most y
+    sized_same most small =
+        subst (λ places. SizedZone kind most (placed z y same places)) (sym same.places) (same_sized kind (points z) most z.bound y.bound turned small)
+
+    pub normal_same : InNormalForm kind z → InNormalForm kind y
+    normal_same normal =
+        subst (λ places. InNormalForm kind (placed z y same places)) (sym same.places) (record {
+          still = same_still kind (points z) z.bound y.bound turned normal.still;
+          bounds = same_to kind (points z) (counted kind y.bound) z.bound y.bound turned (same_from kind (points z) (counted kind z.bound) (counted kind y.bound) z.bound (counted_same (points z) z.bound y.bound turned) normal.bounds);
+        })

@@ -2,5 +2,7 @@
 #![tactic(auto)]
 
 pub mod next;
+pub mod zone;
 
 pub use next::next_due;
+pub use zone::item_zone;

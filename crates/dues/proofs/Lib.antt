@@ -5,4 +5,5 @@ pub mod Counts
 pub mod Stands
 pub mod Turns
 pub mod Same
+pub mod Answered
 pub mod Soundness

@@ -1,5 +1,5 @@
 -- What holds of a zone holds of any with the same places and bounds. Assumes nothing.
-use Rattle.std.proofs.Common.{◌≡◌, ℕ, zero, suc, ◌<◌, true, cond, ◌&&◌, eqb, List, [], ◌∷◌, map, length, sym, ap, subst, arith}
+use Rattle.std.proofs.Common.{◌≡◌, ℕ, zero, suc, ◌<◌, true, cond, ◌&&◌, eqb, List, [], ◌∷◌, map, length, sym, ap, ◌∙◌, subst, arith}
 use Rattle.bounds.specs.Kinds.{Kind}
 use Rattle.bounds.specs.declared.range.Range.{Range}
 use Rattle.nets.specs.Nets.{Arc, Every, Transition, numbered}
@@ -33,6 +33,18 @@ module _ {B : Type 0} (kind : Kind B) where
             let a = partner_inside v w pairing vouches j p in
             let b = partner_inside v w pairing vouches i q in
             subst (λ x. kind.at_most x (v.bound j i) ≡ true) (same.bounds (partner pairing j) (partner pairing i) (omega (arith, a, few)) (omega (arith, b, few))) (vouches.bounds j i p q apart);
+      }
+
+  -- nor does it matter which of the two vouches
+  pub voucher_same : (v y w : Zone B) (pairing : List ℕ) → SameZone v y → Vouches kind y w pairing → Vouches kind v w pairing
+  voucher_same v y w pairing same vouches =
+      let few = ap length same.places in
+      record {
+        count = vouches.count ∙ few;
+        partners = vouches.partners;
+        distinct = vouches.distinct;
+        places = vouches.places ∙ same.places;
+        bounds = λ j i p q apart. subst (λ x. kind.at_most (w.bound (partner pairing j) (partner pairing i)) x ≡ true) (same.bounds j i p q) (vouches.bounds j i (omega (arith, p, few)) (omega (arith, q, few)) apart);
       }
 
   pub vouched_same : (z w : Zone B) (listed : List (Zone B)) → SameZone z w → Vouched kind listed w → Vouched kind listed z

@@ -1,0 +1,76 @@
+// Whether a token of a zone can be paired with a token of an initial marking.
+ghost use Rattle.cells.specs.Cells.{in_draft};
+ghost use Rattle.markings.specs.Initial.{marking_of, clock, token_at};
+ghost use Rattle.markings.specs.Pairings.{allows, allows_all, fits};
+ghost use Rattle.nets.specs.Nets.{numbered};
+ghost use Rattle.std.specs.Prelude.{◌≡◌, ◌≤◌, ◌+◌, length};
+
+use arrayvec::ArrayVec;
+use bounds::Bound;
+use entries::token::InitialToken;
+use matchings::is_among;
+use pages::draft::bound_at;
+
+// The tokens of an initial marking, numbered from 1.
+pub type InitialTokens = ArrayVec<InitialToken, 8>;
+
+// The clock is at age 0. No place is asked of it, nor of a number past the last.
+const CLOCK: InitialToken = InitialToken { place: 0, age: 0 };
+
+// An initial marking, and the bounds of a zone.
+#[derive(Clone, Copy)]
+pub(crate) struct Pairing<'a, 'b, B> {
+    pub(crate) initial: &'a InitialTokens,
+    pub(crate) cells: &'b [B],
+}
+
+impl<'a, 'b, B: Bound> Pairing<'a, 'b, B> {
+    // The first number that no token has.
+    pub(crate) fn end(&self) -> u8
+        ensures is { result ≡ length self.now.initial.now.items + 1 }
+        ensures small { result ≤ 9 }
+    {
+        self.initial.len() as u8 + 1
+    }
+
+    // The token with this number, or for 0 the clock.
+    fn token(&self, number: u8) -> InitialToken
+        ensures { result ≡ numbered self.now.initial.now.items number clock }
+    {
+        usize::from(number)
+            .checked_sub(1)
+            .and_then(|index| self.initial.get(index))
+            .copied()
+            .unwrap_or(CLOCK)
+    }
+
+    // Whether the bound of two points of the zone allows the difference of the ages of these numbers.
+    fn allows(&self, j: u8, i: u8, number: u8, other: u8) -> bool
+        ensures { result ≡ allows B.Bound.kind (in_draft B.Bound.kind self.now.cells.now) (marking_of self.now.initial.now.items) j i number other }
+    {
+        let age = i64::from(self.token(number).age);
+        let less = i64::from(self.token(other).age);
+        bound_at(self.cells, j, i).allows(age - less)
+    }
+
+    // Whether the bounds between the next token of the zone and every point before it, both ways, allow the age of this number.
+    fn allows_all(&self, chosen: &[u8], number: u8) -> bool
+        requires { length chosen.now ≤ 8 }
+        ensures { result ≡ allows_all B.Bound.kind (in_draft B.Bound.kind self.now.cells.now) (marking_of self.now.initial.now.items) chosen.now number }
+    {
+        let next = chosen.len() as u8;
+        (0..next).zip(chosen).all(|(point, other)| {
+            self.allows(next, point, number, *other) && self.allows(point, next, *other, number)
+        })
+    }
+
+    // Whether the next token of the zone, in this place, can be paired with the number after those that are chosen.
+    pub(crate) fn fits(&self, chosen: &[u8], place: u8, number: u8) -> bool
+        requires { length chosen.now ≤ 8 }
+        ensures { result ≡ fits B.Bound.kind (in_draft B.Bound.kind self.now.cells.now) (marking_of self.now.initial.now.items) chosen.now place number }
+    {
+        !is_among(number, chosen)
+            && self.token(number).place == place
+            && self.allows_all(chosen, number)
+    }
+}

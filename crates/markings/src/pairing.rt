@@ -17,7 +17,7 @@ pub type InitialTokens = ArrayVec<InitialToken, 8>;
 // The clock is at age 0. No place is asked of it, nor of a number past the last.
 const CLOCK: InitialToken = InitialToken { place: 0, age: 0 };
 
-// An initial marking, and the bounds of a zone.
+// An initial marking, and the bounds of a zone whose tokens are to be paired with its tokens.
 #[derive(Clone, Copy)]
 pub(crate) struct Pairing<'a, 'b, B> {
     pub(crate) initial: &'a InitialTokens,
@@ -25,7 +25,7 @@ pub(crate) struct Pairing<'a, 'b, B> {
 }
 
 impl<'a, 'b, B: Bound> Pairing<'a, 'b, B> {
-    // The first number that no token has.
+    // One past the last token: numbers run to an end, since an `any` over `1..=` has no law to prove it by.
     pub(crate) fn end(&self) -> u8
         ensures is { result ≡ length self.now.initial.now.items + 1 }
         ensures small { result ≤ 9 }
@@ -53,7 +53,7 @@ impl<'a, 'b, B: Bound> Pairing<'a, 'b, B> {
         bound_at(self.cells, j, i).allows(age - less)
     }
 
-    // Whether the bounds between the next token of the zone and every point before it, both ways, allow the age of this number.
+    // Whether the bounds between the next token of the zone and each point before it, both ways, allow the ages of their numbers.
     fn allows_all(&self, chosen: &[u8], number: u8) -> bool
         requires { length chosen.now ≤ 8 }
         ensures { result ≡ allows_all B.Bound.kind (in_draft B.Bound.kind self.now.cells.now) (marking_of self.now.initial.now.items) chosen.now number }
@@ -64,7 +64,7 @@ impl<'a, 'b, B: Bound> Pairing<'a, 'b, B> {
         })
     }
 
-    // Whether the next token of the zone, in this place, can be paired with the number after those that are chosen.
+    // Whether the next token of the zone, in this place, can be paired with the number, after those that have the chosen ones.
     pub(crate) fn fits(&self, chosen: &[u8], place: u8, number: u8) -> bool
         requires { length chosen.now ≤ 8 }
         ensures { result ≡ fits B.Bound.kind (in_draft B.Bound.kind self.now.cells.now) (marking_of self.now.initial.now.items) chosen.now place number }

@@ -1,4 +1,5 @@
-// The search for a pairing: token by token of the zone, going back where no token of the marking is left for the next one.
+// The search for a pairing, token by token of the zone: where none of the marking's is left for the next one, another is tried for
+// the last.
 ghost use Rattle.cells.specs.Cells.{in_draft};
 ghost use Rattle.cells.specs.Drafts.{draft_zone};
 ghost use Rattle.markings.specs.Initial.{marking_of};
@@ -25,7 +26,7 @@ fn one_more(chosen: &[u8], number: u8) -> Chosen
 }
 
 impl<'a, 'b, B: Bound> Pairing<'a, 'b, B> {
-    // Whether the zone's tokens in these places can be paired too, after those that have the chosen numbers.
+    // Whether the zone's tokens in these places can be paired too, after those that have the chosen numbers. At most nine calls deep.
     fn extends(&self, chosen: &[u8], places: &[u8]) -> bool
         requires { length chosen.now + length places.now ≤ 9 }
         ensures { result ≡ extends B.Bound.kind (in_draft B.Bound.kind self.now.cells.now) (marking_of self.now.initial.now.items) chosen.now places.now }

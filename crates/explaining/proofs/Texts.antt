@@ -1,14 +1,16 @@
 -- Texts that grow by one piece after the other, and the whole of them. Assumes nothing.
-use Rattle.std.proofs.Common.{◌≡◌, ℕ, zero, suc, ◌-◌, ◌≤◌, true, List, [], ◌∷◌, ◌++◌, take, Some, codes, sym, ap, ◌∙◌, subst, append_assoc, arith}
-use Rattle.std.specs.Fmt.{HasWritten}
+use Rattle.std.proofs.Common.{◌≡◌, ℕ, zero, suc, ◌-◌, ◌≤◌, true, List, [], ◌∷◌, ◌++◌, take, Option, Some, None, codes, sym, refl, ap, ◌∙◌, subst, append_assoc, arith}
+use Rattle.std.specs.Fmt.{HasWritten, IsPlainFormatter}
 use Rattle.std.specs.declared.fmt.Formatter.{Formatter}
 use Rattle.std.proofs.lemmas.Grind.{put_two}
-use Rattle.explaining.specs.Explained.{each, line, transition_lines, net_text, text_by, explained_text}
+use Rattle.explaining.specs.Explained.{each, line, slot_line, transition_lines, net_text, text_by, explained_text}
 use Rattle.explaining.specs.Summaries.{summary_text}
+use Rattle.nets.specs.declared.side.Side.{Side}
 use Rattle.records.specs.NetRecords.{header_of, net_fault, sound}
 use Rattle.records.proofs.Clean.{sound_clean}
 use Rattle.records.specs.Refusals.{NetFault, fault_text}
 use Rattle.records.specs.declared.header.NetHeader.{NetHeader}
+use Rattle.records.specs.declared.slot.Slot.{Slot}
 
 pub each_more : (text : ℕ → List ℕ) (n : ℕ) → 1 ≤ n → each text n ≡ each text (n - 1) ++ text n
 each_more text zero h = absurd (omega arith)
@@ -20,6 +22,17 @@ written_more took f g h text n k some e so_far here = put_two took f g h (each t
 
 pub written_to : {W : Type 0} (took : W → List ℕ → W → Type 0) (f g : Formatter W) (text : ℕ → List ℕ) (n k : ℕ) → n ≡ k → HasWritten took f (each text n) g → HasWritten took f (each text k) g
 written_to took f g text n k e h = subst (λ (m : ℕ). HasWritten took f (each text m) g) e h
+
+-- the line of an arc is written, and where there is none nothing is
+pub arc_written : {W : Type 0} (took : W → List ℕ → W → Type 0) (f g h : Formatter W) (side : Side) (o : Option Slot) (slot : Slot) → o ≡ Some slot → h ≡ g → HasWritten took f (slot_line side (Some slot)) g → HasWritten took f (slot_line side o) h
+arc_written took f g h side o slot some same one =
+    subst (λ (p : Option Slot). HasWritten took f (slot_line side p) h) (sym some)
+    (subst (HasWritten took f (slot_line side (Some slot))) (sym same) one)
+
+pub none_written : {W : Type 0} (took : W → List ℕ → W → Type 0) (f h : Formatter W) (side : Side) (o : Option Slot) → ((slot : Slot) → o ≡ Some slot → ⊥) → h ≡ f → IsPlainFormatter f → HasWritten took f (slot_line side o) h
+none_written took f h side None none same plain =
+    subst (HasWritten took f []) (sym same) (record { wrote = record { parts = []; calls = refl; whole = refl }; plain = plain })
+none_written took f h side (Some slot) none same plain = absurd (none slot refl)
 
 -- the summary, and then the transitions
 pub net_written : {W : Type 0} (took : W → List ℕ → W → Type 0) (f g w : Formatter W) (h : NetHeader) (bytes : List ℕ) → h ≡ header_of (take 4 bytes) → HasWritten took f (line (summary_text h)) g → HasWritten took g (each (transition_lines bytes) h.transitions) w → HasWritten took f (net_text bytes) w

@@ -1,36 +1,13 @@
 // The whole text: a summary, then each transition with its arcs.
-ghost use Rattle.explaining.specs.Explained.{slot_line, side_lines, transition_lines, net_text, explained_text};
+ghost use Rattle.explaining.specs.Explained.{side_lines, transition_lines, net_text, explained_text};
 ghost use Rattle.std.specs.Prelude.{◌≡◌, Some, IfOk, string_bytes};
 
 use crate::arc::ArcWords;
 use crate::summary::Summary;
 use nets::Side;
 use records::packed::PackedNet;
-use records::slot::Slot;
 use std::alloc::{AllocError, Global};
 use std::fmt;
-
-// The line of an arc, if there is one.
-#[derive(Clone, Copy)]
-struct ArcLine {
-    side: Side,
-    slot: Option<Slot>,
-}
-
-impl fmt::Display for ArcLine {
-    ghost output = { λ a. Some (slot_line a.side a.slot) };
-
-    fn fmt<W: fmt::Write>(&self, f: &mut fmt::Formatter<W>) -> fmt::Result {
-        let Some(slot) = self.slot else {
-            return Ok(());
-        };
-        let words = ArcWords {
-            side: self.side,
-            slot,
-        };
-        writeln!(f, "  {words}")
-    }
-}
 
 // A line for each arc of a side.
 #[derive(Clone, Copy)]
@@ -55,9 +32,10 @@ impl<'a> fmt::Display for SideLines<'a> {
     fn fmt<W: fmt::Write>(&self, f: &mut fmt::Formatter<W>) -> fmt::Result {
         let side = self.side;
         for arc in 1..=self.net.arc_count(self.transition, side) {
-            let slot = self.net.slot(self.transition, side, arc);
-            let line = ArcLine { side, slot };
-            write!(f, "{line}")?;
+            if let Some(slot) = self.net.slot(self.transition, side, arc) {
+                let words = ArcWords { side, slot };
+                writeln!(f, "  {words}")?;
+            }
         }
         Ok(())
     }

@@ -90,38 +90,38 @@ module _ {B : Type 0} (kind : Kind B) (words : B → List ℕ) (places : ℕ) wh
   -- ---- the zones from k on finish what all of them say
   abbrev pub Going : ℕ → ℕ → List ℕ → List ℕ → ℕ → ℕ → List ℕ → List ℕ → Type 0
   Going n at rest₀ text₀ k next rest text =
-      (after : List ℕ) → ZonesTold kind words places (n - k) (k + 1) next rest text after → ZonesTold kind words places n 1 at rest₀ text₀ after
+      (after : List ℕ) → ZonesTold kind words places ((n + 1) - k) k next rest text after → ZonesTold kind words places n 1 at rest₀ text₀ after
 
-  pub going_none : (n at : ℕ) (rest text : List ℕ) → Going n at rest text 0 at rest text
+  pub going_none : (n at : ℕ) (rest text : List ℕ) → Going n at rest text 1 at rest text
   going_none n at rest text after h =
-      let e : n - 0 ≡ n = omega arith in
+      let e : (n + 1) - 1 ≡ n = omega arith in
       subst (λ (m : ℕ). ZonesTold kind words places m 1 at rest text after) e h
 
-  module _ (n at : ℕ) (rest₀ text₀ : List ℕ) (k next : ℕ) (rest text : List ℕ) (more : k < n) (so_far : Going n at rest₀ text₀ k next rest text) where
-    one_more : (after : List ℕ) → ZonesTold kind words places (suc (n - (k + 1))) (k + 1) next rest text after → ZonesTold kind words places n 1 at rest₀ text₀ after
+  module _ (n at : ℕ) (rest₀ text₀ : List ℕ) (k next : ℕ) (rest text : List ℕ) (more : k ≤ n) (so_far : Going n at rest₀ text₀ k next rest text) where
+    one_more : (after : List ℕ) → ZonesTold kind words places (suc ((n + 1) - (k + 1))) k next rest text after → ZonesTold kind words places n 1 at rest₀ text₀ after
     one_more after h =
-        let e : suc (n - (k + 1)) ≡ n - k = omega arith in
-        so_far after (subst (λ (m : ℕ). ZonesTold kind words places m (k + 1) next rest text after) e h)
+        let e : suc ((n + 1) - (k + 1)) ≡ (n + 1) - k = omega arith in
+        so_far after (subst (λ (m : ℕ). ZonesTold kind words places m k next rest text after) e h)
 
-    pub going_on : (next' : ℕ) (rest' text' : List ℕ) (done : Unit {0}) → ZoneWritten kind words places (Ok tt) (k + 1) next rest text text' next' rest' (Ok done) → Going n at rest₀ text₀ (k + 1) next' rest' text'
+    pub going_on : (next' : ℕ) (rest' text' : List ℕ) (done : Unit {0}) → ZoneWritten kind words places (Ok tt) k next rest text text' next' rest' (Ok done) → Going n at rest₀ text₀ (k + 1) next' rest' text'
     going_on next' rest' text' done w after h =
-        one_more after (told_more (Ok tt) (k + 1) next next' rest rest' text text' after done (λ j xs t. ZonesTold kind words places (n - (k + 1)) (k + 1 + 1) j xs t after) w h)
+        one_more after (told_more (Ok tt) k next next' rest rest' text text' after done (λ j xs t. ZonesTold kind words places ((n + 1) - (k + 1)) (k + 1) j xs t after) w h)
 
-    pub going_fault : (next' : ℕ) (rest' text' : List ℕ) (fault : EntryFault) → ZoneWritten kind words places (Ok tt) (k + 1) next rest text text' next' rest' (Err (Refused fault)) → ZonesTold kind words places n 1 at rest₀ text₀ (text' ++ refusal_line fault)
+    pub going_fault : (next' : ℕ) (rest' text' : List ℕ) (fault : EntryFault) → ZoneWritten kind words places (Ok tt) k next rest text text' next' rest' (Err (Refused fault)) → ZonesTold kind words places n 1 at rest₀ text₀ (text' ++ refusal_line fault)
     going_fault next' rest' text' fault w =
         let last = text' ++ refusal_line fault in
-        one_more last (told_fault (Ok tt) (k + 1) next next' rest rest' text text' last fault (λ t. ZonesTold kind words places (n - (k + 1)) (k + 1 + 1) (next + 1) (drop 192 rest) t last) w)
+        one_more last (told_fault (Ok tt) k next next' rest rest' text text' last fault (λ t. ZonesTold kind words places ((n + 1) - (k + 1)) (k + 1) (next + 1) (drop 192 rest) t last) w)
 
-    pub going_out : (e : Ended) (next' : ℕ) (rest' text' : List ℕ) (r : Result Unit Ended) (f : Ended) → ZoneWritten kind words places (Ok tt) (k + 1) next rest text text' next' rest' (Err e) → r ≡ Err f → f ≡ e → Ends r (ZonesTold kind words places n 1 at rest₀ text₀) text'
+    pub going_out : (e : Ended) (next' : ℕ) (rest' text' : List ℕ) (r : Result Unit Ended) (f : Ended) → ZoneWritten kind words places (Ok tt) k next rest text text' next' rest' (Err e) → r ≡ Err f → f ≡ e → Ends r (ZonesTold kind words places n 1 at rest₀ text₀) text'
     going_out (Refused fault) next' rest' text' r f w is same =
         subst (λ (q : Result Unit Ended). Ends q (ZonesTold kind words places n 1 at rest₀ text₀) text') (sym (is ∙ ap Err same)) (going_fault next' rest' text' fault w)
     going_out (NoMemory m) next' rest' text' r f w is same =
         subst (λ (q : Result Unit Ended). Ends q (ZonesTold kind words places n 1 at rest₀ text₀) text') (sym (is ∙ ap Err same)) tt
 
-  pub going_all : (n at : ℕ) (rest₀ text₀ : List ℕ) (k next : ℕ) (rest text : List ℕ) → k ≡ n → Going n at rest₀ text₀ k next rest text → ZonesTold kind words places n 1 at rest₀ text₀ text
+  pub going_all : (n at : ℕ) (rest₀ text₀ : List ℕ) (k next : ℕ) (rest text : List ℕ) → k ≡ n + 1 → Going n at rest₀ text₀ k next rest text → ZonesTold kind words places n 1 at rest₀ text₀ text
   going_all n at rest₀ text₀ k next rest text end so_far =
-      let e : 0 ≡ n - k = omega arith in
-      so_far text (subst (λ (m : ℕ). ZonesTold kind words places m (k + 1) next rest text text) e refl)
+      let e : 0 ≡ (n + 1) - k = omega arith in
+      so_far text (subst (λ (m : ℕ). ZonesTold kind words places m k next rest text text) e refl)
 
   -- ---- the header, and what follows it
   pub docket_more : (at next : ℕ) (rest left before middle after : List ℕ) (h : DocketHeader) → placed at (docket_header (take 4 rest)) ≡ Ok h → middle ≡ before ++ head_line h → left ≡ drop 4 rest → next ≡ at + 1 → MarkingTold kind words places h next left middle after → DocketTold kind words places at rest before after

@@ -1,6 +1,6 @@
 -- Steps of the walk through the initial tokens. Assumes nothing.
 use Rattle.std.proofs.Math.Bool.{or_assoc}
-use Rattle.std.proofs.Common.{◌≡◌, ℕ, suc, ◌+◌, ◌-◌, ◌<◌, Bool, true, false, cond, ◌||◌, leb, List, ◌++◌, take, drop, Ok, Err, Result, sym, refl, ap, ◌∙◌, subst, append_assoc, append-nil, arith}
+use Rattle.std.proofs.Common.{◌≡◌, ℕ, suc, ◌+◌, ◌-◌, ◌≤◌, Bool, true, false, cond, ◌||◌, leb, List, ◌++◌, take, drop, Ok, Err, Result, sym, refl, ap, ◌∙◌, subst, append_assoc, append-nil, arith}
 use Rattle.std.proofs.lemmas.Result.{err_from_is_err_and}
 use Rattle.std.specs.Result.{MatchResult, IsErrAnd}
 use Rattle.entries.specs.DocketRecords.{initial_token, token_of, token_spare}
@@ -35,17 +35,17 @@ by_tests false false a b x y e = cc
 pub token_is : (bytes : List ℕ) (token : InitialToken) → initial_token bytes ≡ Ok token → token_of bytes ≡ token
 token_is bytes token e = by_tests _ (token_spare bytes) _ _ (token_of bytes) token e
 
--- the tokens from here on have the text, the faults and the places that all of them have
+-- the tokens from number k on have the text, the faults and the places that all of them have
 pub record Walked (places n at : ℕ) (rest₀ text₀ : List ℕ) (k next : ℕ) (rest text : List ℕ) (outside : Bool) : Type 0 where
-  pub written : text ++ tokens_text (n - k) (k + 1) next rest ≡ text₀ ++ tokens_text n 1 at rest₀
-  pub read : tokens_read (n - k) rest ≡ tokens_read n rest₀
-  pub outer : (outside || some_outside places (n - k) rest) ≡ some_outside places n rest₀
-  pub left : after_tokens (n - k) rest ≡ after_tokens n rest₀
-  pub number : next + (n - k) ≡ at + n
+  pub written : text ++ tokens_text ((n + 1) - k) k next rest ≡ text₀ ++ tokens_text n 1 at rest₀
+  pub read : tokens_read ((n + 1) - k) rest ≡ tokens_read n rest₀
+  pub outer : (outside || some_outside places ((n + 1) - k) rest) ≡ some_outside places n rest₀
+  pub left : after_tokens ((n + 1) - k) rest ≡ after_tokens n rest₀
+  pub number : next + ((n + 1) - k) ≡ at + n
 
-pub walked_none : (places n at : ℕ) (rest text : List ℕ) → Walked places n at rest text 0 at rest text false
+pub walked_none : (places n at : ℕ) (rest text : List ℕ) → Walked places n at rest text 1 at rest text false
 walked_none places n at rest text =
-    let e : n - 0 ≡ n = omega arith in
+    let e : (n + 1) - 1 ≡ n = omega arith in
     record {
       written = ap (λ m. text ++ tokens_text m 1 at rest) e;
       read = ap (λ m. tokens_read m rest) e;
@@ -54,22 +54,22 @@ walked_none places n at rest text =
       number = omega arith;
     }
 
-module _ (places n at : ℕ) (rest₀ text₀ : List ℕ) (k next : ℕ) (rest text : List ℕ) (outside : Bool) (more : k < n) (so_far : Walked places n at rest₀ text₀ k next rest text outside) where
-  one_more : n - k ≡ suc (n - (k + 1))
+module _ (places n at : ℕ) (rest₀ text₀ : List ℕ) (k next : ℕ) (rest text : List ℕ) (outside : Bool) (more : k ≤ n) (so_far : Walked places n at rest₀ text₀ k next rest text outside) where
+  one_more : (n + 1) - k ≡ suc ((n + 1) - (k + 1))
   one_more = omega arith
 
-  walked_more : (token : InitialToken) (text' : List ℕ) → placed next (initial_token (take 3 rest)) ≡ Ok token → text' ≡ text ++ initial_line (k + 1) token → Walked places n at rest₀ text₀ (k + 1) (next + 1) (drop 3 rest) text' (outside || leb places token.place)
+  walked_more : (token : InitialToken) (text' : List ℕ) → placed next (initial_token (take 3 rest)) ≡ Ok token → text' ≡ text ++ initial_line k token → Walked places n at rest₀ text₀ (k + 1) (next + 1) (drop 3 rest) text' (outside || leb places token.place)
   walked_more token text' e grown =
-      let m = n - (k + 1) in
-      let later = tokens_text m (k + 1 + 1) (next + 1) (drop 3 rest) in
+      let m = (n + 1) - (k + 1) in
+      let later = tokens_text m (k + 1) (next + 1) (drop 3 rest) in
       let is : initial_token (take 3 rest) ≡ Ok token = placed_ok next _ token e in
       let place : token.place ≡ (token_of (take 3 rest)).place = ap (λ t. t.place) (sym (token_is (take 3 rest) token is)) in
       record {
         written =
             ap (λ x. x ++ later) grown
-            ∙ append_assoc text (initial_line (k + 1) token) later
-            ∙ ap (λ r. text ++ token_text_by (k + 1) r later) (sym e)
-            ∙ ap (λ j. text ++ tokens_text j (k + 1) next rest) (sym one_more)
+            ∙ append_assoc text (initial_line k token) later
+            ∙ ap (λ r. text ++ token_text_by k r later) (sym e)
+            ∙ ap (λ j. text ++ tokens_text j k next rest) (sym one_more)
             ∙ so_far.written;
         read = ap (λ r. is_read r (tokens_read m (drop 3 rest))) (sym is) ∙ ap (λ j. tokens_read j rest) (sym one_more) ∙ so_far.read;
         outer =
@@ -81,7 +81,7 @@ module _ (places n at : ℕ) (rest₀ text₀ : List ℕ) (k next : ℕ) (rest t
         number = omega (arith, so_far.number);
       }
 
-  pub walked_on : (token : InitialToken) (next' : ℕ) (rest' text' : List ℕ) → placed next (initial_token (take 3 rest)) ≡ Ok token → text' ≡ text ++ initial_line (k + 1) token → next' ≡ next + 1 → rest' ≡ drop 3 rest → Walked places n at rest₀ text₀ (k + 1) next' rest' text' (outside || leb places token.place)
+  pub walked_on : (token : InitialToken) (next' : ℕ) (rest' text' : List ℕ) → placed next (initial_token (take 3 rest)) ≡ Ok token → text' ≡ text ++ initial_line k token → next' ≡ next + 1 → rest' ≡ drop 3 rest → Walked places n at rest₀ text₀ (k + 1) next' rest' text' (outside || leb places token.place)
   walked_on token next' rest' text' e grown one cut =
       let outer = outside || leb places token.place in
       subst (λ (j : ℕ). Walked places n at rest₀ text₀ (k + 1) j rest' text' outer) (sym one)
@@ -89,30 +89,30 @@ module _ (places n at : ℕ) (rest₀ text₀ : List ℕ) (k next : ℕ) (rest t
 
   pub walked_fault : (fault : EntryFault) (text' : List ℕ) → placed next (initial_token (take 3 rest)) ≡ Err fault → text' ≡ text ++ refusal_line fault → TokensRefused n at rest₀ text₀ text'
   walked_fault fault text' e grown =
-      let m = n - (k + 1) in
-      let later = tokens_text m (k + 1 + 1) (next + 1) (drop 3 rest) in
+      let m = (n + 1) - (k + 1) in
+      let later = tokens_text m (k + 1) (next + 1) (drop 3 rest) in
       record {
         refused = sym so_far.read ∙ ap (λ j. tokens_read j rest) one_more ∙ placed_err next (initial_token (take 3 rest)) fault (tokens_read m (drop 3 rest)) e;
         text =
             grown
-            ∙ ap (λ r. text ++ token_text_by (k + 1) r later) (sym e)
-            ∙ ap (λ j. text ++ tokens_text j (k + 1) next rest) (sym one_more)
+            ∙ ap (λ r. text ++ token_text_by k r later) (sym e)
+            ∙ ap (λ j. text ++ tokens_text j k next rest) (sym one_more)
             ∙ so_far.written;
       }
 
   -- a token's fault, or memory that ran out, handed on
-  pub walked_out : (e : Ended) (next' : ℕ) (rest' text' : List ℕ) (r : Result Bool Ended) (f : Ended) → Stepped (placed next (initial_token (take 3 rest))) (initial_line (k + 1)) text text' (Err e) → r ≡ Err f → f ≡ e → TokensTold places n at rest₀ text₀ text' next' rest' r
+  pub walked_out : (e : Ended) (next' : ℕ) (rest' text' : List ℕ) (r : Result Bool Ended) (f : Ended) → Stepped (placed next (initial_token (take 3 rest))) (initial_line k) text text' (Err e) → r ≡ Err f → f ≡ e → TokensTold places n at rest₀ text₀ text' next' rest' r
   walked_out (Refused fault) next' rest' text' r f h is same =
       subst (λ (q : Result Bool Ended). TokensTold places n at rest₀ text₀ text' next' rest' q) (sym (is ∙ ap Err same)) (walked_fault fault (text' ++ refusal_line fault) h.0 (ap (λ t. t ++ refusal_line fault) h.1))
   walked_out (NoMemory m) next' rest' text' r f h is same =
       subst (λ (q : Result Bool Ended). TokensTold places n at rest₀ text₀ text' next' rest' q) (sym (is ∙ ap Err same)) tt
 
-pub walked_all : (places n at : ℕ) (rest₀ text₀ : List ℕ) (k next : ℕ) (rest text : List ℕ) (outside : Bool) → k ≡ n → Walked places n at rest₀ text₀ k next rest text outside → TokensRead places n at rest₀ text₀ text next rest outside
+pub walked_all : (places n at : ℕ) (rest₀ text₀ : List ℕ) (k next : ℕ) (rest text : List ℕ) (outside : Bool) → k ≡ n + 1 → Walked places n at rest₀ text₀ k next rest text outside → TokensRead places n at rest₀ text₀ text next rest outside
 walked_all places n at rest₀ text₀ k next rest text outside end w =
-    let e : 0 ≡ n - k = omega arith in
+    let e : 0 ≡ (n + 1) - k = omega arith in
     record {
       read = sym (ap (λ j. tokens_read j rest) e ∙ w.read);
-      text = sym (append-nil text) ∙ ap (λ j. text ++ tokens_text j (k + 1) next rest) e ∙ w.written;
+      text = sym (append-nil text) ∙ ap (λ j. text ++ tokens_text j k next rest) e ∙ w.written;
       outside_is = or_none outside ∙ ap (λ j. outside || some_outside places j rest) e ∙ w.outer;
       rest_is = ap (λ j. after_tokens j rest) e ∙ w.left;
       next_is = omega (arith, w.number);

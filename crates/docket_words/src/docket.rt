@@ -52,9 +52,8 @@ fn with_records<B: BoundWords>(
     text: String,
     reader: Reader<'_>,
     places: u8,
-    cells: &mut [B],
+    cells: &mut [B; 169],
 ) -> Result<String, AllocError>
-    requires { length cells.old ≡ 169 }
     ensures { IfOk result (λ s. DocketTold B.Bound.kind B.BoundWords.words places reader.entry.next reader.entry.rest.now (string_bytes text) (string_bytes s)) }
 {
     let mut teller = Teller {

@@ -38,8 +38,8 @@ impl<'a, 'c, B> Teller<'a, 'c, B> {
         ensures { TokensTold places count self.old.reader.next self.old.reader.rest.now (string_bytes self.old.text) (string_bytes self.new.text) self.new.reader.next self.new.reader.rest.now result }
     {
         let mut outside = false;
-        for t in 0..count {
-            let token = self.token(t + 1)?;
+        for number in 1..=count {
+            let token = self.token(number)?;
             outside |= places <= token.place;
         }
         Ok(outside)

@@ -13,7 +13,7 @@ use entries::refusal::ZONE_SIZE;
 use pages::tokens::Tokens;
 use reading::read_zone;
 use records::fault::Fault;
-use records::reader::{Part, Reader};
+use records::reader::Part;
 
 // What is wrong with an initial marking, lowest number first. The target's record answers by it, once its own length is tested.
 pub(crate) fn marking_refusal(tokens: u8, outside: bool) -> Result<(), EntryRefusal>
@@ -43,27 +43,27 @@ fn read_unless<B: Bound>(
     read_zone(bytes, places, cells)
 }
 
-// The next zone, into the cells of a draft.
-fn read_next_zone<B: Bound>(
-    reader: &mut Reader<'_>,
-    places: u8,
-    known: Result<(), EntryRefusal>,
-    cells: &mut [B],
-) -> Result<Tokens, EntryFault>
-    requires { length cells.old ≡ 169 }
-    ensures kept { length cells.new ≡ length cells.old }
-    ensures read { ZoneRead B.Bound.kind places known reader.old.next reader.old.rest.now cells.new reader.new.next reader.new.rest.now result }
-{
-    let Part { bytes, at } = reader.part(ZONE_SIZE)?;
-    read_unless(bytes, places, known, cells).map_err(|refusal| Fault { refusal, at })
+impl<'a, 'c, B: Bound> Teller<'a, 'c, B> {
+    // The next zone, into the cells.
+    fn next_zone(
+        &mut self,
+        places: u8,
+        known: Result<(), EntryRefusal>,
+    ) -> Result<Tokens, EntryFault>
+        ensures text { self.new.text ≡ self.old.text }
+        ensures read { ZoneRead B.Bound.kind places known self.old.reader.next self.old.reader.rest.now self.new.cells.now self.new.reader.next self.new.reader.rest.now result }
+    {
+        let Part { bytes, at } = self.reader.part(ZONE_SIZE)?;
+        read_unless(bytes, places, known, self.cells).map_err(|refusal| Fault { refusal, at })
+    }
 }
 
 impl<'a, 'c, B: BoundWords> Teller<'a, 'c, B> {
     fn zone(&mut self, number: u8, places: u8, known: Result<(), EntryRefusal>) -> Result<(), Ended>
         ensures { ZoneWritten B.Bound.kind B.BoundWords.words places known number self.old.reader.next self.old.reader.rest.now (string_bytes self.old.text) (string_bytes self.new.text) self.new.reader.next self.new.reader.rest.now result }
     {
+        let tokens = self.next_zone(places, known)?;
         let cells = &mut *self.cells;
-        let tokens = read_next_zone(&mut self.reader, places, known, cells)?;
         write_zone(&mut self.text, number, &tokens, cells)?;
         Ok(())
     }
@@ -71,8 +71,8 @@ impl<'a, 'c, B: BoundWords> Teller<'a, 'c, B> {
     fn zones(&mut self, zones: u8, places: u8) -> Result<(), Ended>
         ensures { Ends result (ZonesTold B.Bound.kind B.BoundWords.words places zones 1 self.old.reader.next self.old.reader.rest.now (string_bytes self.old.text)) (string_bytes self.new.text) }
     {
-        for z in 0..zones {
-            self.zone(z + 1, places, Ok(()))?;
+        for number in 1..=zones {
+            self.zone(number, places, Ok(()))?;
         }
         Ok(())
     }

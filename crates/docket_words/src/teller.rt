@@ -16,7 +16,8 @@ use std::alloc::AllocError;
 pub(crate) struct Teller<'a, 'c, B> {
     pub text: String,
     pub reader: Reader<'a>,
-    // a draft for one zone after the other; a slice, as of an array of any kind's bounds it is not proved that its bytes are fewer than 2^63
+    // a draft for one zone after the other; a slice, as of a field that is an array of any kind's bounds it is not proved that
+    // its bytes are fewer than 2^63
     pub cells: &'c mut [B],
     ghost full: { length cells.now ≡ 169 },
 }

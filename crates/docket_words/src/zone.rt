@@ -27,7 +27,7 @@ impl<'a> fmt::Display for Places<'a> {
     }
 }
 
-// The zone of these tokens whose bounds stand in the cells of a draft.
+// The zone of these tokens whose bounds stand in the cells of a draft. No `Display`, as its table is none.
 pub fn write_zone<B: BoundWords>(
     text: &mut String,
     number: u8,

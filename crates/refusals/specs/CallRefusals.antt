@@ -1,0 +1,35 @@
+-- The number and the text of each refusal of a docket's calls. Assumes nothing.
+use Rattle.std.specs.Prelude.{ℕ, List, codes}
+use Rattle.books.specs.Objections.{objection_number}
+use Rattle.books.specs.declared.objections.Objection.{Objection}
+use Rattle.books.specs.declared.objections.Objection.TheVariants.{Partner, Place, Bound}
+use Rattle.entries.specs.Refusals.{entry_number_of, entry_text}
+use Rattle.refusals.specs.declared.refusal.CallRefusal.{CallRefusal}
+use Rattle.refusals.specs.declared.refusal.CallRefusal.TheVariants.{Entry, Covered, NotVoid, VoidItem, NoSuchZone, Objected, WrongStage, WrongMemory, FullList}
+
+abbrev pub call_number : CallRefusal → ℕ
+call_number (Entry e) = entry_number_of e
+call_number Covered = 26
+call_number NotVoid = 27
+call_number VoidItem = 28
+call_number NoSuchZone = 29
+call_number (Objected o) = objection_number o
+call_number WrongStage = 40
+call_number WrongMemory = 41
+call_number FullList = 42
+
+abbrev pub objection_text : Objection → List ℕ
+objection_text Partner = codes "a partner is no token of the item, or is used twice"
+objection_text Place = codes "a token stands in another place than its partner"
+objection_text Bound = codes "a bound of the item is larger than the zone's"
+
+abbrev pub call_text : CallRefusal → List ℕ
+call_text (Entry e) = entry_text e
+call_text Covered = codes "the initial marking satisfies the zone"
+call_text NotVoid = codes "the item is not void"
+call_text VoidItem = codes "the item is void"
+call_text NoSuchZone = codes "there is no listed zone of this number"
+call_text (Objected o) = objection_text o
+call_text WrongStage = codes "the call does not belong to this stage"
+call_text WrongMemory = codes "lent memory is not of its length, or the lists of initial tokens are unequal"
+call_text FullList = codes "there are 63 listed zones already"

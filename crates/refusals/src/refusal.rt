@@ -1,0 +1,92 @@
+// The refusals of a docket's calls.
+ghost use Rattle.entries.specs.declared.fault.EntryRefusal.TheVariants.{WrongLength};
+ghost use Rattle.refusals.specs.CallRefusals.{call_number, call_text};
+ghost use Rattle.refusals.specs.declared.refusal.CallRefusal.TheVariants.{Entry};
+ghost use Rattle.std.specs.Prelude.{◌≡◌, Some, refl};
+
+use books::Objection;
+use entries::fault::EntryRefusal;
+use records::fault::Refusal;
+use std::fmt;
+
+#[derive(Clone, Copy, PartialEq, Eq, Debug)]
+pub enum CallRefusal {
+    // 20 to 25: what is wrong with a record, or with the initial tokens
+    Entry(EntryRefusal),
+    // 26: the initial marking satisfies the listed zone
+    Covered,
+    // 27: void is claimed for an item that is not void
+    NotVoid,
+    // 28: a void item is given a pairing
+    VoidItem,
+    // 29
+    NoSuchZone,
+    // 30 to 32: what stands against the zone that a voucher names
+    Objected(Objection),
+    // 40
+    WrongStage,
+    // 41: lent memory is not of the stated length, or the lists of initial tokens are unequal
+    WrongMemory,
+    // 42: a 64th zone
+    FullList,
+}
+
+impl From<EntryRefusal> for CallRefusal {
+    ghost from_gives = { λ e r. r ≡ Entry e };
+
+    fn from(refusal: EntryRefusal) -> CallRefusal {
+        CallRefusal::Entry(refusal)
+    }
+}
+
+impl Refusal for CallRefusal {
+    ghost number_of = { call_number };
+
+    ghost text_of = { call_text };
+
+    ghost missing = { Entry WrongLength };
+
+    ghost displays = { λ r. refl };
+
+    fn number(self) -> u8 {
+        match self {
+            CallRefusal::Entry(refusal) => refusal.number(),
+            CallRefusal::Covered => 26,
+            CallRefusal::NotVoid => 27,
+            CallRefusal::VoidItem => 28,
+            CallRefusal::NoSuchZone => 29,
+            CallRefusal::Objected(objection) => objection.number(),
+            CallRefusal::WrongStage => 40,
+            CallRefusal::WrongMemory => 41,
+            CallRefusal::FullList => 42,
+        }
+    }
+
+    fn missing() -> CallRefusal {
+        CallRefusal::Entry(EntryRefusal::missing())
+    }
+}
+
+impl fmt::Display for CallRefusal {
+    ghost output = { λ r. Some (call_text r) };
+
+    fn fmt<W: fmt::Write>(&self, f: &mut fmt::Formatter<W>) -> fmt::Result {
+        f.write_str(match self {
+            CallRefusal::Entry(refusal) => return write!(f, "{refusal}"),
+            CallRefusal::Covered => "the initial marking satisfies the zone",
+            CallRefusal::NotVoid => "the item is not void",
+            CallRefusal::VoidItem => "the item is void",
+            CallRefusal::NoSuchZone => "there is no listed zone of this number",
+            CallRefusal::Objected(Objection::Partner) =>
+                "a partner is no token of the item, or is used twice",
+            CallRefusal::Objected(Objection::Place) =>
+                "a token stands in another place than its partner",
+            CallRefusal::Objected(Objection::Bound) =>
+                "a bound of the item is larger than the zone's",
+            CallRefusal::WrongStage => "the call does not belong to this stage",
+            CallRefusal::WrongMemory =>
+                "lent memory is not of its length, or the lists of initial tokens are unequal",
+            CallRefusal::FullList => "there are 63 listed zones already",
+        })
+    }
+}

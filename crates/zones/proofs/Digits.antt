@@ -230,6 +230,15 @@ module _ (arcs places : List ℕ) where
 matching_small : {B : Type 0} (places : List ℕ) (a : Arc B) (d : ℕ) (r : Bool) → length places ≤ 15 → (eqb d 0 || (stands places d a.place && not r)) ≡ true → d < 16
 matching_small places a d r few h = grind (arith, nat_tests)
 
+-- 0 is a matching of any arcs
+pub zero_matches : {B : Type 0} (places : List ℕ) (arcs : List (Arc B)) → length arcs ≤ 4 → is_matching places arcs 0 ≡ true
+zero_matches places [] few = refl
+zero_matches places (p ∷ []) few = refl
+zero_matches places (p ∷ q ∷ []) few = refl
+zero_matches places (p ∷ q ∷ r ∷ []) few = refl
+zero_matches places (p ∷ q ∷ r ∷ s ∷ []) few = refl
+zero_matches places (p ∷ q ∷ r ∷ s ∷ t ∷ arcs) few = absurd (omega arith)
+
 small_at : {B : Type 0} (places : List ℕ) (arcs : List (Arc B)) (ds : List ℕ) → length places ≤ 15 → matches places arcs ds ≡ true → (k : ℕ) → get_or ds k 0 < 16
 small_at places [] [] few m k = omega arith
 small_at places [] (d ∷ ds) few m k = absurd (false≢true m)

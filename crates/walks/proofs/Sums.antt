@@ -44,16 +44,9 @@ module _ {B : Type 0} (kind : Kind B) where
   pub zero_after : (a : B) → kind.size a ≤ largest_size → kind.sum a kind.zero ≡ a
   zero_after a h = kind.commutative a kind.zero (omega (arith, kind.zero_size)) ∙ kind.neutral a h
 
-  pub sum_small : (a b : B) (s t : ℕ) → kind.size a ≤ s → kind.size b ≤ t → kind.size (kind.sum a b) ≤ s + t
-  sum_small a b s t h k = omega (arith, kind.sum_size a b)
-
   pub monotone_right : (a b c : B) → kind.size a + kind.size c ≤ largest_size → kind.size b + kind.size c ≤ largest_size → kind.at_most a b ≡ true → kind.at_most (kind.sum c a) (kind.sum c b) ≡ true
   monotone_right a b c h k le =
       rw (kind.commutative c a (omega arith), kind.commutative c b (omega arith)) (kind.monotone a b c h k le)
-
-  pub monotone_both : (a b c d : B) (s t : ℕ) → kind.size a ≤ s → kind.size b ≤ s → kind.size c ≤ t → kind.size d ≤ t → s + t ≤ largest_size → kind.at_most a b ≡ true → kind.at_most c d ≡ true → kind.at_most (kind.sum a c) (kind.sum b d) ≡ true
-  monotone_both a b c d s t ha hb hc hd room h k =
-      kind.transitive (kind.sum a c) (kind.sum b c) (kind.sum b d) (kind.monotone a b c (omega arith) (omega arith) h) (monotone_right c d b (omega arith) (omega arith) k)
 
   -- ---- sums of walks
   module _ (n s : ℕ) (x : Matrix B) (sized : Sized kind n s x) where

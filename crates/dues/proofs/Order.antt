@@ -17,7 +17,7 @@ use Rattle.dues.proofs.Lists.{numbers_first, numbers_none, every_number, every_f
 -- ---- matchings, in ascending order
 module _ {B : Type 0} (places : List ℕ) (arcs : List (Arc B)) where
   -- the first number is kept where it is a matching
-  matchings_step : (n : ℕ) → n < 65536 → matchings_from places arcs n ≡ cond (is_matching places arcs n) (n ∷ matchings_from places arcs (suc n)) (matchings_from places arcs (suc n))
+  pub matchings_step : (n : ℕ) → n < 65536 → matchings_from places arcs n ≡ cond (is_matching places arcs n) (n ∷ matchings_from places arcs (suc n)) (matchings_from places arcs (suc n))
   unfolding matchings_from
   matchings_step n small = ap (filter (is_matching places arcs)) (numbers_first n 65536 small)
 
@@ -61,14 +61,14 @@ module _ {B : Type 0} (net : Net B) (listed : List (List ℕ)) where
   transitions_step places z t few =
       ap (flat_map (λ u. firings_from net places z u 0)) (numbers_first (suc t) (suc (length net.transitions)) (omega (arith, few)))
 
-  transitions_past : (places : List ℕ) (z t : ℕ) → length net.transitions ≤ t → transitions_from net places z (suc t) ≡ []
+  pub transitions_past : (places : List ℕ) (z t : ℕ) → length net.transitions ≤ t → transitions_from net places z (suc t) ≡ []
   transitions_past places z t past =
       ap (flat_map (λ u. firings_from net places z u 0)) (numbers_none (suc t) (suc (length net.transitions)) (omega (arith, past)))
 
   pub zones_step : (z : ℕ) → z < length listed → zones_from net listed (suc z) ≡ delay_item (suc z) ∷ behind net listed (suc z) 0 0
   zones_step z few = ap (flat_map (steps_due net listed)) (numbers_first (suc z) (suc (length listed)) (omega (arith, few)))
 
-  zones_past : (z : ℕ) → length listed ≤ z → zones_from net listed (suc z) ≡ []
+  pub zones_past : (z : ℕ) → length listed ≤ z → zones_from net listed (suc z) ≡ []
   zones_past z past = ap (flat_map (steps_due net listed)) (numbers_none (suc z) (suc (length listed)) (omega (arith, past)))
 
   -- ---- the tests of what comes next

@@ -1,5 +1,5 @@
 -- The laws of what is due. Assumes nothing.
-use Rattle.std.proofs.Common.{◌≡◌, ℕ, zero, suc, ◌<◌, ◌≤◌, true, List, [], ◌∷◌, ◌++◌, length, sym, refl, subst, arith}
+use Rattle.std.proofs.Common.{◌≡◌, ℕ, zero, suc, ◌+◌, ◌<◌, ◌≤◌, Bool, true, false, cond, List, [], ◌∷◌, ◌++◌, map, length, sym, refl, ap, ◌∙◌, subst, arith}
 use Rattle.std.proofs.lemmas.List.{append_assoc}
 use Rattle.nets.specs.Nets.{Arc, Net, Every, arcs_of, numbered}
 use Rattle.nets.specs.declared.side.Side.TheVariants.{Output}
@@ -10,7 +10,7 @@ use Rattle.dues.specs.declared.due.Due.{Due}
 use Rattle.dues.proofs.Counts.{few_due}
 use Rattle.dues.proofs.Ends.{EndsIn, ends_equal, ends_later, ends_join, ends_append, ends_map, ends_flat, ends_filter, numbers_end}
 use Rattle.dues.proofs.Lists.{flat_every, map_every, filter_every, number_every}
-use Rattle.dues.proofs.Order.{matchings_first, transitions_step, zones_step, target_leads}
+use Rattle.dues.proofs.Order.{matchings_first, matchings_past, matchings_step, transitions_past, transitions_step, zones_past, zones_step, target_leads}
 
 matchings_end : {B : Type 0} (places : List ℕ) (arcs : List (Arc B)) (first n : ℕ) → first ≤ n → n ≤ 65536 → EndsIn (matchings_from places arcs first) (matchings_from places arcs n)
 unfolding matchings_from
@@ -74,6 +74,63 @@ module _ {B : Type 0} (net : Net B) (listed : List (List ℕ)) where
       let zones = number_every (λ z. Every (IsDue net listed) (steps_due net listed z)) 1 (suc (length listed)) (λ z some few. steps_are_due z some (omega (arith, few))) in
       ((refl, refl), flat_every (IsDue net listed) (steps_due net listed) (numbers 1 (suc (length listed))) zones)
 
+  -- ---- what follows an item
+  -- the rest of the list, behind each of its items
+  abbrev Chained : List Due → Type 0
+  Chained [] = Unit {0}
+  Chained (d ∷ rest) = (rest ≡ due_after net listed d) × Chained rest
+
+  chained_at : (before rest : List Due) (d : Due) → Chained (before ++ (d ∷ rest)) → rest ≡ due_after net listed d
+  chained_at [] rest d chain = chain.0
+  chained_at (b ∷ before) rest d chain = chained_at before rest d chain.1
+
+  abbrev after_zone : ℕ → List Due
+  after_zone z = zones_from net listed (suc z)
+
+  abbrev after_transition : ℕ → ℕ → List Due
+  after_transition z t = transitions_from net (numbered listed z []) z (suc t) ++ after_zone z
+
+  firings_chained : (z t count n : ℕ) → n + count ≡ 65536 → Chained (after_transition (suc z) (suc t)) → Chained (firings_from net (numbered listed (suc z) []) (suc z) (suc t) n ++ after_transition (suc z) (suc t))
+  unfolding due_after
+  firings_chained z t zero n is chain =
+      let none = matchings_past (numbered listed (suc z) []) (arcs_of net (suc t) Output) n (omega (arith, is)) in
+      subst (λ ms. Chained (map (item (suc z) (suc t)) ms ++ after_transition (suc z) (suc t))) (sym none) chain
+  firings_chained z t (suc count) n is chain =
+      let places = numbered listed (suc z) [] in
+      let arcs = arcs_of net (suc t) Output in
+      subst (λ ms. Chained (map (item (suc z) (suc t)) ms ++ after_transition (suc z) (suc t))) (sym (matchings_step places arcs n (omega (arith, is)))) (kept (is_matching places arcs n) (firings_chained z t count (suc n) (omega (arith, is)) chain))
+    where
+      later : List ℕ
+      later = matchings_from (numbered listed (suc z) []) (arcs_of net (suc t) Output) (suc n)
+
+      kept : (b : Bool) → Chained (map (item (suc z) (suc t)) later ++ after_transition (suc z) (suc t)) → Chained (map (item (suc z) (suc t)) (cond b (n ∷ later) later) ++ after_transition (suc z) (suc t))
+      kept true chain = (refl, chain)
+      kept false chain = chain
+
+  transitions_chained : (z count t : ℕ) → t + count ≡ length net.transitions → Chained (after_zone (suc z)) → Chained (after_transition (suc z) t)
+  transitions_chained z zero t is chain =
+      subst (λ l. Chained (l ++ after_zone (suc z))) (sym (transitions_past net listed (numbered listed (suc z) []) (suc z) t (omega (arith, is)))) chain
+  transitions_chained z (suc count) t is chain =
+      let places = numbered listed (suc z) [] in
+      let firings = firings_from net places (suc z) (suc t) 0 in
+      let later = transitions_from net places (suc z) (suc (suc t)) in
+      subst Chained (sym (ap (λ l. l ++ after_zone (suc z)) (transitions_step net listed places (suc z) t (omega (arith, is))) ∙ append_assoc firings later (after_zone (suc z))))
+      (firings_chained z t 65536 0 (omega arith) (transitions_chained z count (suc t) (omega (arith, is)) chain))
+
+  zones_chained : (count z : ℕ) → z + count ≡ length listed → Chained (after_zone z)
+  unfolding due_after
+  zones_chained zero z is = subst Chained (sym (zones_past net listed z (omega (arith, is)))) tt
+  zones_chained (suc count) z is =
+      let chain = transitions_chained z (length net.transitions) 0 (omega arith) (zones_chained count (suc z) (omega (arith, is))) in
+      subst Chained (sym (zones_step net listed z (omega (arith, is)))) (refl, chain)
+
+  all_chained : Chained (all_due net listed)
+  unfolding all_due due_after
+  all_chained = (refl, zones_chained (length listed) 0 (omega arith))
+
+  rest_due : (before rest : List Due) (d : Due) → all_due net listed ≡ before ++ (d ∷ rest) → rest ≡ due_after net listed d
+  rest_due before rest d is = chained_at before rest d (subst Chained is all_chained)
+
   -- ---- laws
   pub dues_keep_laws : DueLaws net listed
-  dues_keep_laws = record { first = target_leads net listed; each = each_stands; only = all_are_due; few = few_due net listed }
+  dues_keep_laws = record { first = target_leads net listed; each = each_stands; only = all_are_due; rest = rest_due; few = few_due net listed }

@@ -33,4 +33,6 @@ pub record DueLaws {B : Type 0} (net : Net B) (listed : List (List ℕ)) : Type 
   -- each item that there can be is due, and no other
   pub each : (d : Due) → IsDue net listed d → Stands net listed d
   pub only : Every (IsDue net listed) (all_due net listed)
+  -- none twice: wherever an item stands, the same follows it
+  pub rest : (before rest : List Due) (d : Due) → all_due net listed ≡ before ++ (d ∷ rest) → rest ≡ due_after net listed d
   pub few : length (all_due net listed) ≤ 1 + length listed * (1 + length net.transitions * 65536)

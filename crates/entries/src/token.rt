@@ -4,7 +4,7 @@ ghost use Rattle.entries.specs.DocketRecords.{token_of, token_spare};
 use crate::bits::bits;
 use crate::record::Record;
 
-#[derive(Clone, Copy, PartialEq, Eq, Debug)]
+#[derive(Clone, Copy, PartialEq, Eq, Debug, Default)]
 pub struct InitialToken {
     pub place: u8,
     pub age: u16,

@@ -1,5 +1,6 @@
 // The firing predecessor and the matchings of one transition.
 use crate::drafts::{check_bounds, draft};
+use crate::net_records::one_transition;
 use bounds::PlainBound;
 use matchings::{is_matching, next_matching};
 use pages::firing::firing_predecessor;
@@ -16,8 +17,8 @@ const C: u8 = 2;
 // The header of a record with tokens in B and C.
 const IN_B_AND_C: [u8; 3] = [2, 0x04, 0x20];
 
-// First bytes of a net with places A, B and C, and of its transition, of one input and one output.
-const FIRST: [u8; 5] = [0x42, 0x02, 0x00, 0x00, 0x24];
+// The header of a net with places A, B and C and one transition.
+const HEADER: [u8; 4] = [0x42, 0x02, 0x00, 0x00];
 
 // A token of A, of age 0 to 1.
 const TAKEN: [u8; 5] = [0x00, 0x00, 0x00, 0x00, 0x02];
@@ -25,14 +26,8 @@ const TAKEN: [u8; 5] = [0x00, 0x00, 0x00, 0x00, 0x02];
 // A token of C, of age 3.
 const GIVEN: [u8; 5] = [0x08, 0x00, 0x0c, 0x00, 0x06];
 
-const UNUSED: [u8; 5] = [0; 5];
-
 fn net_record(heap: Global) -> Result<Vec<u8>, AllocError> {
-    let mut bytes = Vec::from_slice(heap, &FIRST)?;
-    for slot in [TAKEN, UNUSED, UNUSED, UNUSED, GIVEN, UNUSED, UNUSED, UNUSED] {
-        bytes.extend_from_slice(&slot)?;
-    }
-    Ok(bytes)
+    one_transition(heap, &HEADER, TAKEN, GIVEN)
 }
 
 #[test]

@@ -4,9 +4,13 @@
 #[cfg(test)]
 mod book_cases;
 #[cfg(test)]
+mod docket_cases;
+#[cfg(test)]
 mod drafts;
 #[cfg(test)]
 mod firing_cases;
+#[cfg(test)]
+mod net_records;
 #[cfg(test)]
 mod zone_cases;
 #[cfg(test)]

@@ -13,6 +13,7 @@ use Rattle.zones.specs.Predecessors.{narrowed, released, with_token, picked, Fir
 use Rattle.zones.specs.Zones.{Inconsistent}
 use Rattle.examples.specs.WorkedExamples.{WorkedExamples, plus, minus, strictly, between, one_token, up_to_eight, one_to_six, up_to_six, same_age, same_age_form, puts_at_three, before_firing}
 use Rattle.examples.proofs.Computed.{each, plain_named}
+use Rattle.examples.proofs.Starts.{none_asked, two_at_most_two, two_below_two}
 use Rattle.examples.proofs.Squares.{pair, square, pair_same, square_same, narrowed_limits, released_limits, with_token_limits, narrowed_same, released_same, with_token_same, Solved, solved}
 
 -- the limits n and -n
@@ -164,4 +165,7 @@ worked_examples_hold kind =
       three_meets_three = (three_three_solved kind).none;
       three_itself = record { still = one_still kind; bounds = (three_three_solved kind).normal };
       strict_three = below_three kind;
+      none_asked = none_asked kind;
+      two_at_most_two = two_at_most_two kind;
+      two_below_two = two_below_two kind;
     }

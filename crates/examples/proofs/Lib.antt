@@ -1,3 +1,4 @@
 pub mod Computed
 pub mod Squares
+pub mod Starts
 pub mod Examples

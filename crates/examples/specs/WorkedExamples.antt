@@ -3,10 +3,11 @@
 use Rattle.std.specs.Prelude.{◌≡◌, ℕ, true, false, List, [], ◌∷◌, pos, neg_ℤ, slice_index_or}
 use Rattle.bounds.specs.Kinds.{Kind}
 use Rattle.bounds.specs.declared.range.Range.{Range}
+use Rattle.nets.specs.Markings.{Marking}
 use Rattle.nets.specs.Nets.{Transition}
 use Rattle.walks.specs.Walks.{Matrix, counted, NormalForm}
 use Rattle.zones.specs.Predecessors.{DelayPredecessor, FiringPredecessor, matches, narrowed}
-use Rattle.zones.specs.Zones.{Zone, Inconsistent, InNormalForm, NormalOf}
+use Rattle.zones.specs.Zones.{Zone, Inconsistent, InNormalForm, NormalOf, Satisfies}
 
 -- bounds written out: row j, column i
 abbrev pub table : {B : Type 0} → B → List (List B) → Matrix B
@@ -78,6 +79,14 @@ module _ {B : Type 0} (kind : Kind B) where
   abbrev pub before_firing : Zone B
   before_firing = two_tokens 1 0 (minus 3) (plus 0) (plus 3) (plus 3) (plus 1) (minus 2)
 
+  -- ---- initial markings
+  abbrev pub no_tokens : Zone B
+  no_tokens = record { places = []; bound = table kind.no_limit [] }
+
+-- one token in place 0
+abbrev pub token_of_age : ℕ → Marking
+token_of_age n = record { place = 0; age = n } ∷ []
+
 pub record WorkedExamples {B : Type 0} (kind : Kind B) : Type 0 where
   pub a_normal_form : InNormalForm kind (up_to_eight kind)
   pub its_own_normal_form : NormalOf kind (up_to_eight kind) (up_to_eight kind)
@@ -96,3 +105,8 @@ pub record WorkedExamples {B : Type 0} (kind : Kind B) : Type 0 where
   pub three_itself : InNormalForm kind (one_token kind 0 (plus kind 3) (minus kind 3))
   -- an age below 3 and at least 3, in a kind that takes the mark
   pub strict_three : kind.marks ≡ true → Inconsistent kind (one_token kind 0 (strictly kind 3) (minus kind 3))
+  -- every marking satisfies a zone of no tokens, so such a zone is never listed
+  pub none_asked : (m : Marking) → Satisfies kind 1 (no_tokens kind) m
+  -- a token of age 2 is at most 2 old, and not below 2, in a kind that takes the mark
+  pub two_at_most_two : Satisfies kind 1 (one_token kind 0 (plus kind 2) kind.no_limit) (token_of_age 2)
+  pub two_below_two : kind.marks ≡ true → Satisfies kind 1 (one_token kind 0 (strictly kind 2) kind.no_limit) (token_of_age 2) → ⊥

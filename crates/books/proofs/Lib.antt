@@ -1,2 +1,2 @@
 mod Steps
-mod Means
+pub mod Means

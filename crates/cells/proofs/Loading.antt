@@ -39,17 +39,21 @@ take_counting a (suc n) (suc k) h = ap (λ xs. a ∷ xs) (take_counting (a + 1) 
 pub points_first : (n : ℕ) → n ≤ 9 → take n nine_points ≡ range_with_len 0 n
 points_first n few = take_counting 0 9 n few
 
+-- the bounds that were written are those that the draft holds
+pub written_is : {B : Type 0} (kind : Kind B) (bounds : Matrix B) (n : ℕ) (cells : List B) → length cells ≡ 169 → n ≤ most_points → Same n (in_draft kind (written bounds n cells)) bounds
+written_is kind bounds n cells full few =
+    (grid_filled kind n bounds (λ j c. times n (λ i e. put j i (bounds j i) e) c) cells full few
+    (λ j c l g. row_filled kind j n (bounds j) (λ i _. bounds j i) c g.long (omega arith) few (λ i _ _ _. refl))
+    ).done
+
 module _ {B : Type 0} (kind : Kind B) where
   -- ---- the cells written
   module _ (d : Matrix B) (n : ℕ) (cells : List B) (full : length cells ≡ 169) (few : n ≤ most_points) where
-    pub written_is : Same n (in_draft kind (written (counted kind d) n cells)) (counted kind d)
-    written_is =
-        (grid_filled kind n (counted kind d) (λ j c. times n (λ i e. put j i (counted kind d j i) e) c) cells full few
-        (λ j c l g. row_filled kind j n (counted kind d j) (λ i _. counted kind d j i) c g.long (omega arith) few (λ i _ _ _. refl))
-        ).done
+    counted_is : Same n (in_draft kind (written (counted kind d) n cells)) (counted kind d)
+    counted_is = written_is kind (counted kind d) n cells full few
 
     written_back : Same n (counted kind d) (in_draft kind (written (counted kind d) n cells))
-    written_back = same_back kind n (in_draft kind (written (counted kind d) n cells)) (counted kind d) written_is
+    written_back = same_back kind n (in_draft kind (written (counted kind d) n cells)) (counted kind d) counted_is
 
     pub written_ready : (s : ℕ) → s ≤ largest_entry → Sized kind n s d → Ready kind n (range_with_len 0 n) (written (counted kind d) n cells)
     written_ready s small sized =
@@ -64,12 +68,12 @@ module _ {B : Type 0} (kind : Kind B) where
         }
 
     pub written_negative : Negative kind n (in_draft kind (written (counted kind d) n cells)) → Negative kind n (counted kind d)
-    written_negative = same_negative kind n (in_draft kind (written (counted kind d) n cells)) (counted kind d) written_is
+    written_negative = same_negative kind n (in_draft kind (written (counted kind d) n cells)) (counted kind d) counted_is
 
     pub written_consistent : (y : Matrix B) → Consistent kind n (in_draft kind (written (counted kind d) n cells)) y → Consistent kind n (counted kind d) y
     written_consistent y h =
         record {
-          normal = same_from kind n (in_draft kind (written (counted kind d) n cells)) (counted kind d) y written_is h.normal;
+          normal = same_from kind n (in_draft kind (written (counted kind d) n cells)) (counted kind d) y counted_is h.normal;
           none = λ negative. h.none (same_negative kind n (counted kind d) (in_draft kind (written (counted kind d) n cells)) written_back negative);
         }
 

@@ -5,10 +5,10 @@ use Rattle.std.proofs.lemmas.List.{get_or-map, length-map}
 use Rattle.arrayvec.specs.ArrayVec.{ArrayVec}
 use Rattle.bounds.specs.Kinds.{Kind}
 use Rattle.books.specs.Books.{page_points}
-use Rattle.cells.specs.Cells.{in_draft, loaded}
+use Rattle.cells.specs.Cells.{in_draft, in_page, written}
 use Rattle.cells.specs.Drafts.{Workable, draft_zone, largest_listed}
-use Rattle.cells.proofs.Grid.{length-loaded}
-use Rattle.cells.proofs.Operations.{loaded_is}
+use Rattle.cells.proofs.Grid.{length-written}
+use Rattle.cells.proofs.Loading.{written_is}
 use Rattle.nets.specs.Nets.{Net, arcs_of, transition_of}
 use Rattle.nets.specs.declared.side.Side.TheVariants.{Output}
 use Rattle.pages.specs.Backwards.{DelayedBack, FiredBack, FiringAnswer}
@@ -19,9 +19,9 @@ use Rattle.dues.specs.Dues.{item}
 use Rattle.dues.proofs.Same.{delay_same, firing_same, normal_same, sized_same, void_same}
 use Rattle.items.specs.Made.{Holds, ItemAnswer, Made}
 
-module _ {B : Type 0} (kind : Kind B) (page_places : List ℕ) (page before draft : List B) (is : draft ≡ loaded kind page (page_points page_places) before) where
+module _ {B : Type 0} (kind : Kind B) (page_places : List ℕ) (page before draft : List B) (is : draft ≡ written (in_page kind page) (page_points page_places) before) where
   kept : length draft ≡ length before
-  kept = ap length is ∙ length-loaded kind page (page_points page_places) before
+  kept = ap length is ∙ length-written (in_page kind page) (page_points page_places) before
 
   module _ (z : Zone B) (full : length before ≡ 169) (holds : Holds kind z page_places page) where
     few : length page_places ≤ 8
@@ -35,7 +35,7 @@ module _ {B : Type 0} (kind : Kind B) (page_places : List ℕ) (page before draf
           places = holds.same.places;
           bounds = λ j i p q.
               ap (λ cells. in_draft kind cells j i) is
-              ∙ loaded_is kind page (page_points page_places) before full (omega (arith, points, few)) j i (omega (arith, p, long, points)) (omega (arith, q, long, points))
+              ∙ written_is kind (in_page kind page) (page_points page_places) before full (omega (arith, points, few)) j i (omega (arith, p, long, points)) (omega (arith, q, long, points))
               ∙ holds.same.bounds j i p q;
         }
 

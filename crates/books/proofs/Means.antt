@@ -25,7 +25,7 @@ module _ {B : Type 0} (kind : Kind B) (page item : Zone B) (pairing : List ℕ) 
       let none = no_test (partners_unsound page.places item.places pairing) (places_differ page.places item.places pairing) (bound_exceeds kind page.bound item.bound pairing) e in
       vouches_from kind page item pairing none.0 none.1 none.2
 
-  nothing : Vouches kind page item pairing → objection_of kind page item pairing ≡ Ok tt
+  pub nothing : Vouches kind page item pairing → objection_of kind page item pairing ≡ Ok tt
   nothing v =
       let lacks = none_lacks kind page item pairing v in
       cond-false (partners_unsound page.places item.places pairing) _ _ lacks.0 ∙ (cond-false (places_differ page.places item.places pairing) _ _ lacks.1 ∙ cond-false (bound_exceeds kind page.bound item.bound pairing) _ _ lacks.2)

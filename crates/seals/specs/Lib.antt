@@ -1,0 +1,5 @@
+pub mod Worlds
+pub mod Tables
+pub mod Calls
+pub mod Logs
+pub mod Promise

@@ -11,13 +11,12 @@ use Rattle.seals.specs.Calls.{PageFormed}
 use Rattle.seals.specs.Logs.{Log, Opening, no_log}
 use Rattle.seals.specs.Promise.{stage_said}
 use Rattle.seals.specs.Worlds.{World, blank, listed_pages, page_of}
-use Rattle.zones.specs.Zones.{Zone, Inconsistent, NormalOf, Satisfies}
+use Rattle.zones.specs.Zones.{Zone, NormalOf, Satisfies}
 
--- page p holds the normal form of z, which is consistent
-pub record PageAgrees {B : Type 0} (kind : Kind B) (w : World B) (p : ℕ) (z : Zone B) : Type 0 where
-  pub normal : NormalOf kind z (page_of kind w p)
-  pub formed : PageFormed kind (page_of kind w p)
-  pub consistent : Inconsistent kind z → ⊥
+-- the page holds the normal form of z
+pub record PageAgrees {B : Type 0} (kind : Kind B) (z page : Zone B) : Type 0 where
+  pub normal : NormalOf kind z page
+  pub formed : PageFormed kind page
 
 -- the zone with this number, the target's 0
 abbrev pub zone_said : {B : Type 0} → Opening B → Log B → ℕ → Zone B
@@ -29,10 +28,9 @@ pub record AgreesOpened {B : Type 0} (kind : Kind B) (net : Net B) (log : Log B)
   pub initial : o.initial ≡ marking_of w.state.initial
   pub counts : w.state.counts ≡ map (λ z. length z.places) (o.target ∷ log.listed)
   pub few : length log.listed ≤ 63
-  pub pages : (p : ℕ) → p ≤ length log.listed → PageAgrees kind w p (zone_said o log p)
+  pub pages : (p : ℕ) → p ≤ length log.listed → PageAgrees kind (zone_said o log p) (page_of kind w p)
   pub apart : (p : ℕ) → 1 ≤ p → p ≤ length log.listed → Satisfies kind 1 (page_of kind w p) o.initial → ⊥
   pub answered : Every (Answered kind net (page_of kind w 0) (listed_pages kind w)) (take log.taken (all_due net (places_of_all log.listed)))
-  pub within : log.taken ≤ length (all_due net (places_of_all log.listed))
   -- the first item that is still due
   pub turn : Option Due
   pub awaits : Awaits net (places_of_all log.listed) log.taken turn

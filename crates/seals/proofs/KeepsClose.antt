@@ -33,10 +33,9 @@ module _ {B : Type 0} (kind : Kind B) (net : Net B) where
         initial = a.initial;
         counts = a.counts;
         few = a.few;
-        pages = λ p below. let page = a.pages p below in record { normal = page.normal; formed = page.formed; consistent = page.consistent };
+        pages = a.pages;
         apart = a.apart;
         answered = a.answered;
-        within = a.within;
         turn = a.turn;
         awaits = a.awaits;
         stage = sym (ap proving_stage (ap (λ n. drop n due) none_taken ∙ target_leads net (places_of_all log.listed)));

@@ -50,10 +50,9 @@ module _ {B : Type 0} (kind : Kind B) (net : Net B) (limits : Limits kind net) w
           initial = a.initial;
           counts = a.counts;
           few = a.few;
-          pages = λ p below. let page = a.pages p below in record { normal = page.normal; formed = page.formed; consistent = page.consistent };
+          pages = a.pages;
           apart = a.apart;
           answered = one_more_answered net ps (Answered kind net (page_of kind w 0) (listed_pages kind w)) log.taken d awaits a.answered answered;
-          within = omega (arith, awaited_below net ps log.taken d awaits);
           turn = next;
           awaits = later;
           stage = sym (ap (stage_said net (discharged_log log) (Some o)) closed ∙ stage_awaited net ps (log.taken + 1) next later);

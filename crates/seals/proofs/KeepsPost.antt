@@ -15,7 +15,7 @@ use Rattle.seals.specs.Logs.{Log, Opening, with_call}
 use Rattle.seals.specs.Promise.{stage_said}
 use Rattle.seals.specs.Tables.{Answer, is_listing, post_table}
 use Rattle.seals.specs.Worlds.{World, listed_count, listed_pages, page_of}
-use Rattle.zones.specs.Zones.{Zone, Inconsistent, Satisfies, SizedZone}
+use Rattle.zones.specs.Zones.{Zone, Satisfies, SizedZone}
 use Rattle.zones.proofs.ZoneLaws.{zones_keep_laws}
 use Rattle.seals.proofs.Agrees.{Agrees, AgreesAs, AgreesOpened, PageAgrees, zone_said}
 use Rattle.seals.proofs.Moved.{unmoved}
@@ -37,7 +37,7 @@ module _ {B : Type 0} (kind : Kind B) (net : Net B) (z : Zone B) where
       let none : length log.listed - length log.listed ≡ 0 = omega arith in
       get_or-append_right log.listed (z ∷ []) (length log.listed) (length log.listed) o.target refl (omega arith) ∙ ap (λ n. get_or (z ∷ []) n o.target) none
 
-  module _ (log : Log B) (w u : World B) (o : Opening B) (a : AgreesOpened kind net log o w) (some_left : length log.listed < 63) (step : Posted kind z w u) (consistent : Inconsistent kind z → ⊥) where
+  module _ (log : Log B) (w u : World B) (o : Opening B) (a : AgreesOpened kind net log o w) (some_left : length log.listed < 63) (step : Posted kind z w u) where
     abbrev last : ℕ
     last = length w.state.counts
 
@@ -53,10 +53,10 @@ module _ {B : Type 0} (kind : Kind B) (net : Net B) (z : Zone B) where
     counts_now : u.state.counts ≡ w.state.counts ++ (length z.places ∷ [])
     counts_now = ap (λ s. s.counts) step.state
 
-    page_last : PageAgrees kind u (length w.state.counts) z
+    page_last : PageAgrees kind z (page_of kind u (length w.state.counts))
     page_last =
         let none : last - last ≡ 0 = omega arith in
-        page_agrees kind last z w u step.page full last_below consistent
+        page_agrees kind last z w u step.page full last_below
         (ap (λ l. get_or l last 0) counts_now ∙ get_or-append_right w.state.counts (length z.places ∷ []) last last 0 refl (omega arith) ∙ ap (λ n. get_or (length z.places ∷ []) n 0) none)
 
     module _ (p : ℕ) (below : p ≤ length log.listed) where
@@ -69,13 +69,16 @@ module _ {B : Type 0} (kind : Kind B) (net : Net B) (z : Zone B) where
       still : page_of kind u p ≡ page_of kind w p
       still = page_kept kind last z w u step.page full last_below p earlier (count_few kind net log o w a p below) count_still
 
-      still_agrees : PageAgrees kind u p (zone_said o (posted_log log) p)
+      still_agrees : PageAgrees kind (zone_said o (posted_log log) p) (page_of kind u p)
       still_agrees =
-          subst (PageAgrees kind u p) (sym (said_before o log p below)) (page_still_agrees kind last z w u step.page full last_below p earlier (count_few kind net log o w a p below) count_still (zone_said o log p) (a.pages p below))
+          subst (λ y. PageAgrees kind y (page_of kind u p)) (sym (said_before o log p below)) (page_still_agrees kind last z w u step.page full last_below p earlier (count_few kind net log o w a p below) count_still (zone_said o log p) (a.pages p below))
 
-    last_agrees : PageAgrees kind u (suc (length log.listed)) (zone_said o (posted_log log) (suc (length log.listed)))
+    next_page : PageAgrees kind z (page_of kind u (suc (length log.listed)))
+    next_page = subst (λ n. PageAgrees kind z (page_of kind u n)) last_is page_last
+
+    last_agrees : PageAgrees kind (zone_said o (posted_log log) (suc (length log.listed))) (page_of kind u (suc (length log.listed)))
     last_agrees =
-        subst (PageAgrees kind u (suc (length log.listed))) (sym (said_last o log)) (subst (λ n. PageAgrees kind u n z) last_is page_last)
+        subst (λ y. PageAgrees kind y (page_of kind u (suc (length log.listed)))) (sym (said_last o log)) next_page
 
     -- a page is one of those before, or the last
     either_page : (P : ℕ → Type 0) → ((p : ℕ) → p ≤ length log.listed → P p) → P (suc (length log.listed)) → (p : ℕ) → p ≤ length (log.listed ++ (z ∷ [])) → P p
@@ -91,17 +94,16 @@ module _ {B : Type 0} (kind : Kind B) (net : Net B) (z : Zone B) where
         let long = whole_after kind last z w u step.page full last_below in
         let none_taken = a.fresh listing in
         let due = all_due net (places_of_all (log.listed ++ (z ∷ []))) in
-        let last_apart = λ (m : Satisfies kind 1 (page_of kind u (suc (length log.listed))) o.initial). apart (subst (Satisfies kind 1 z) a.initial ((zones_keep_laws kind).from_form 1 z (page_of kind u (suc (length log.listed))) o.initial (omega arith) small (subst (λ n. PageAgrees kind u n z) last_is page_last).normal m)) in
+        let last_apart = λ (m : Satisfies kind 1 (page_of kind u (suc (length log.listed))) o.initial). apart (subst (Satisfies kind 1 z) a.initial ((zones_keep_laws kind).from_form 1 z (page_of kind u (suc (length log.listed))) o.initial (omega arith) small next_page.normal m)) in
         record {
           cells = long.cells;
           places = long.places;
           initial = a.initial ∙ sym (ap (λ s. marking_of s.initial) step.state);
           counts = counts_now ∙ ap (λ l. l ++ (length z.places ∷ [])) a.counts ∙ sym (map-append (λ y. length y.places) (o.target ∷ log.listed) (z ∷ []));
           few = omega (arith, some_left, length-append log.listed (z ∷ []));
-          pages = either_page (λ p. PageAgrees kind u p (zone_said o (posted_log log) p)) still_agrees last_agrees;
+          pages = either_page (λ p. PageAgrees kind (zone_said o (posted_log log) p) (page_of kind u p)) still_agrees last_agrees;
           apart = λ p some below m. either_page (λ q. 1 ≤ q → Satisfies kind 1 (page_of kind u q) o.initial → ⊥) (λ q under first n. a.apart q first under (subst (λ y. Satisfies kind 1 y o.initial) (still q under) n)) (λ first. last_apart) p below some m;
           answered = subst (λ n. Every (Answered kind net (page_of kind u 0) (listed_pages kind u)) (take n due)) (sym none_taken) tt;
-          within = omega (arith, none_taken);
           turn = Some target_item;
           awaits = subst (λ n. Awaits net (places_of_all (log.listed ++ (z ∷ []))) n (Some target_item)) (sym none_taken) (target_leads net (places_of_all (log.listed ++ (z ∷ []))));
           stage = ap (λ s. s.stage) step.state ∙ sym (ap (stage_said net (posted_log log) (Some o)) listing);
@@ -109,13 +111,13 @@ module _ {B : Type 0} (kind : Kind B) (net : Net B) (z : Zone B) where
           fresh = a.fresh;
         }
 
-  post_taken : (log : Log B) (w u : World B) (o : Option (Opening B)) → log.opening ≡ o → AgreesAs kind net log w o → (is_listing w.state.stage ≡ false → ⊥) → (listed_count w.state ≡ 63 → ⊥) → (Inconsistent kind z → ⊥) → SizedZone kind largest_size z → (Satisfies kind 1 z (marking_of w.state.initial) → ⊥) → Posted kind z w u → Agrees kind net (posted_log log) u
-  post_taken log w u None is a listing room consistent small apart step = absurd (listing (ap (λ s. is_listing s.stage) a.1))
-  post_taken log w u (Some o) is a listing room consistent small apart step =
+  post_taken : (log : Log B) (w u : World B) (o : Option (Opening B)) → log.opening ≡ o → AgreesAs kind net log w o → (is_listing w.state.stage ≡ false → ⊥) → (listed_count w.state ≡ 63 → ⊥) → SizedZone kind largest_size z → (Satisfies kind 1 z (marking_of w.state.initial) → ⊥) → Posted kind z w u → Agrees kind net (posted_log log) u
+  post_taken log w u None is a listing room small apart step = absurd (listing (ap (λ s. is_listing s.stage) a.1))
+  post_taken log w u (Some o) is a listing room small apart step =
       let before = listing_not_closed net log o log.closed (subst (λ s. is_listing s ≡ false → ⊥) a.1.stage listing) in
       let many = listed_as_many kind net log o w a.1 in
       let some_left : length log.listed < 63 = omega (arith, many, room, a.1.few) in
-      subst (AgreesAs kind net (posted_log log) u) (sym is) (is, opened_posted log w u o a.1 some_left step consistent before small apart)
+      subst (AgreesAs kind net (posted_log log) u) (sym is) (is, opened_posted log w u o a.1 some_left step before small apart)
 
 module _ {B : Type 0} (kind : Kind B) (net : Net B) where
   record_small : (bytes : List ℕ) → SizedZone kind largest_size (zone_of kind bytes)
@@ -124,5 +126,5 @@ module _ {B : Type 0} (kind : Kind B) (net : Net B) where
   pub keeps_post : (log : Log B) (w u : World B) (zone : List ℕ) (lent : List B) (answer : Answer) → Agrees kind net log w → Step kind net w (Post zone lent answer) u → Agrees kind net (with_call kind log (Post zone lent answer)) u
   keeps_post log w u zone lent (Ok t) agrees step =
       let fails = none_holds (post_table kind net w lent zone) step.1.answers in
-      post_taken kind net (zone_of kind zone) log w u log.opening refl agrees fails.0 fails.1.1.0 fails.1.1.1.1.1.1.1.1.0 (record_small zone) fails.1.1.1.1.1.1.1.1.1.0 (step.1.taken refl)
+      post_taken kind net (zone_of kind zone) log w u log.opening refl agrees fails.0 fails.1.1.0 (record_small zone) fails.1.1.1.1.1.1.1.1.1.0 (step.1.taken refl)
   keeps_post log w u zone lent (Err r) agrees step = unmoved kind net log w u (step.1.refused r refl) agrees

@@ -1,5 +1,5 @@
 -- The listed pages as the log has them: as many, and with the same places. Assumes nothing.
-use Rattle.std.proofs.Common.{◌≡◌, ℕ, zero, suc, ◌+◌, ◌<◌, ◌≤◌, List, [], ◌∷◌, map, length, get_or, sym, refl, ap, ◌∙◌, arith}
+use Rattle.std.proofs.Common.{◌≡◌, ℕ, zero, suc, ◌+◌, ◌<◌, ◌≤◌, List, [], ◌∷◌, map, length, get_or, refl, ap, ◌∙◌, arith}
 use Rattle.std.proofs.lemmas.List.{get_or-map, length-map}
 use Rattle.std.specs.List.{range_with_len}
 use Rattle.bounds.specs.Kinds.{Kind}
@@ -7,16 +7,16 @@ use Rattle.dues.specs.Answered.{places_of_all}
 use Rattle.nets.specs.Nets.{Net}
 use Rattle.seals.specs.Logs.{Log, Opening}
 use Rattle.seals.specs.Worlds.{World, listed_count, listed_pages, page_of}
+use Rattle.zones.specs.Zones.{Zone}
 use Rattle.seals.proofs.Agrees.{AgreesOpened, zone_said}
 
--- pages from some number on, read one after the other
-read_alike : {X Y : Type 0} (f g : X → Y) (page : ℕ → X) (xs : List X) (none : X) (first : ℕ) → ((i : ℕ) → i < length xs → f (page (first + i)) ≡ g (get_or xs i none)) → map f (map page (range_with_len first (length xs))) ≡ map g xs
-read_alike f g page [] none first alike = refl
-read_alike f g page (x ∷ xs) none first alike =
-    let here : first + 0 ≡ first = omega arith in
-    let step : (i : ℕ) → first + 1 + i ≡ first + suc i = λ i. omega arith in
-    ap (λ y. y ∷ map f (map page (range_with_len (first + 1) (length xs)))) (ap (λ n. f (page n)) (sym here) ∙ alike 0 (omega arith))
-    ∙ ap (λ ys. g x ∷ ys) (read_alike f g page xs none (first + 1) (λ i below. ap (λ n. f (page n)) (step i) ∙ alike (suc i) (omega (arith, below))))
+-- pages from some number on, one after the other
+same_places : {B : Type 0} (page : ℕ → Zone B) (none : Zone B) (listed : List (Zone B)) (first : ℕ) → ((i : ℕ) → i < length listed → (page (first + i)).places ≡ (get_or listed i none).places) → places_of_all (map page (range_with_len first (length listed))) ≡ places_of_all listed
+same_places page none [] first each = refl
+same_places page none (z ∷ listed) first each =
+    let here : first ≡ first + 0 = omega arith in
+    let later = same_places page none listed (first + 1) (λ i below. let next : first + 1 + i ≡ first + suc i = omega arith in ap (λ n. (page n).places) next ∙ each (suc i) (omega (arith, below))) in
+    ap (λ p. p ∷ places_of_all (map page (range_with_len (first + 1) (length listed)))) (ap (λ n. (page n).places) here ∙ each 0 (omega arith)) ∙ ap (λ l. z.places ∷ l) later
 
 module _ {B : Type 0} (kind : Kind B) (net : Net B) (log : Log B) (o : Opening B) (w : World B) (a : AgreesOpened kind net log o w) where
   pub counts_length : length w.state.counts ≡ suc (length log.listed)
@@ -38,10 +38,5 @@ module _ {B : Type 0} (kind : Kind B) (net : Net B) (log : Log B) (o : Opening B
 
   pub places_listed : places_of_all (listed_pages kind w) ≡ places_of_all log.listed
   places_listed =
-      ap (λ n. map (λ z. z.places) (map (page_of kind w) (range_with_len 1 n))) listed_as_many
-      ∙ read_alike (λ z. z.places) (λ z. z.places) (page_of kind w) log.listed o.target 1 (λ i below. place_at i below)
-    where
-      place_at : (i : ℕ) → i < length log.listed → (page_of kind w (1 + i)).places ≡ (get_or log.listed i o.target).places
-      place_at i below =
-          let next : suc i ≡ 1 + i = omega arith in
-          ap (λ n. (page_of kind w n).places) (sym next) ∙ (a.pages (suc i) (omega (arith, below))).normal.places
+      ap (λ n. places_of_all (map (page_of kind w) (range_with_len 1 n))) listed_as_many
+      ∙ same_places (page_of kind w) o.target log.listed 1 (λ i below. let next : 1 + i ≡ suc i = omega arith in ap (λ p. (page_of kind w p).places) next ∙ (a.pages (suc i) (omega (arith, below))).normal.places)

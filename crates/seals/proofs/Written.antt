@@ -3,8 +3,8 @@ use Rattle.std.proofs.Common.{◌≡◌, ℕ, ◌*◌, ◌<◌, ◌≤◌, Bool,
 use Rattle.std.proofs.lemmas.Bool.{and_parts, cases_Bool, eqb-true}
 use Rattle.bounds.specs.Kinds.{Kind}
 use Rattle.cells.specs.Objections.{page_zone}
-use Rattle.zones.specs.Zones.{Zone, Inconsistent, NormalOf}
-use Rattle.seals.specs.Calls.{PageFormed, PageWritten, cells_of, places_of}
+use Rattle.zones.specs.Zones.{Zone}
+use Rattle.seals.specs.Calls.{PageWritten, cells_of, places_of}
 use Rattle.seals.specs.Worlds.{World, page_of, whole}
 use Rattle.seals.proofs.Agrees.{PageAgrees}
 use Rattle.seals.proofs.Pages.{formed_held, normal_held, page_holds, page_old, page_then, length-cells_of, length-places_of, length-with_page}
@@ -31,8 +31,8 @@ module _ {B : Type 0} (kind : Kind B) (p : ℕ) (z : Zone B) (before after : Wor
         places = ap length page.places ∙ length-with_page 8 p (places_of page.form) before.places (length-places_of kind page.form page.formed.few) (omega (arith, below, full.places)) ∙ full.places;
       }
 
-  pub page_agrees : (Inconsistent kind z → ⊥) → get_or after.state.counts p 0 ≡ length z.places → PageAgrees kind after p z
-  page_agrees consistent count =
+  pub page_agrees : get_or after.state.counts p 0 ≡ length z.places → PageAgrees kind z (page_of kind after p)
+  page_agrees count =
       let form = page.form in
       let cells_inside : 81 * p ≤ length before.cells = omega (arith, below, full.cells) in
       let places_inside : 8 * p ≤ length before.places = omega (arith, below, full.places) in
@@ -42,11 +42,7 @@ module _ {B : Type 0} (kind : Kind B) (p : ℕ) (z : Zone B) (before after : Wor
       ap (λ n. page_zone kind (take n (drop (8 * p) after.places)) (take 81 (drop (81 * p) after.cells))) (count ∙ sym (ap length page.normal.places))
       ∙ ap (λ l. page_zone kind (take (length form.places) (drop (8 * p) l)) (take 81 (drop (81 * p) after.cells))) page.places
       ∙ ap (λ l. page_zone kind then.places (take 81 (drop (81 * p) l))) page.cells in
-      record {
-        normal = subst (NormalOf kind z) (sym is) (normal_held kind z form then same page.normal);
-        formed = subst (PageFormed kind) (sym is) (formed_held kind z form then same page.formed);
-        consistent = consistent;
-      }
+      subst (PageAgrees kind z) (sym is) (record { normal = normal_held kind z form then same page.normal; formed = formed_held kind z form then same page.formed })
 
   -- a page before it
   module _ (q : ℕ) (earlier : q < p) (few : get_or before.state.counts q 0 ≤ 8) (count : get_or after.state.counts q 0 ≡ get_or before.state.counts q 0) where
@@ -59,10 +55,5 @@ module _ {B : Type 0} (kind : Kind B) (p : ℕ) (z : Zone B) (before after : Wor
         ∙ ap (λ l. page_zone kind l (take 81 (drop (81 * q) after.cells))) (ap (λ l. take n (drop (8 * q) l)) page.places ∙ places)
         ∙ ap (λ l. page_zone kind (take n (drop (8 * q) before.places)) l) (ap (λ l. take 81 (drop (81 * q) l)) page.cells ∙ cells)
 
-    pub page_still_agrees : (y : Zone B) → PageAgrees kind before q y → PageAgrees kind after q y
-    page_still_agrees y a =
-        record {
-          normal = subst (NormalOf kind y) (sym page_kept) a.normal;
-          formed = subst (PageFormed kind) (sym page_kept) a.formed;
-          consistent = a.consistent;
-        }
+    pub page_still_agrees : (y : Zone B) → PageAgrees kind y (page_of kind before q) → PageAgrees kind y (page_of kind after q)
+    page_still_agrees y a = subst (PageAgrees kind y) (sym page_kept) a

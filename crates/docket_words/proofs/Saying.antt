@@ -3,9 +3,7 @@ use Rattle.std.proofs.Common.{◌≡◌, ℕ, suc, ◌+◌, ◌-◌, ◌*◌, �
 use Rattle.std.proofs.lemmas.List.{drop-drop}
 use Rattle.std.proofs.lemmas.Bool.{ne_eqb, not_from_false}
 use Rattle.bounds.specs.Kinds.{Kind}
-use Rattle.entries.specs.DocketRecords.{docket_header}
 use Rattle.entries.specs.ZoneRecords.{wrong_length}
-use Rattle.entries.specs.declared.docket.DocketHeader.{DocketHeader}
 use Rattle.entries.specs.Refusals.{EntryFault}
 use Rattle.entries.specs.declared.fault.EntryRefusal.{EntryRefusal}
 use Rattle.entries.specs.declared.fault.EntryRefusal.TheVariants.{WrongLength}
@@ -14,8 +12,8 @@ use Rattle.records.specs.Parts.{Parted}
 use Rattle.records.specs.declared.fault.Missing.{Missing}
 use Rattle.records.specs.declared.reader.Part.{Part}
 use Rattle.docket_words.specs.Ends.{Ends}
-use Rattle.docket_words.specs.Initial.{placed, head_line, refusal_line}
-use Rattle.docket_words.specs.Told.{SaidAfter, ZoneTold, ZonesTold, MarkingTold, told_after, DocketTold}
+use Rattle.docket_words.specs.Initial.{placed, refusal_line}
+use Rattle.docket_words.specs.Told.{SaidAfter, ZoneTold, ZonesTold}
 use Rattle.docket_words.specs.Written.{ZoneRead, ZoneWritten}
 use Rattle.docket_words.specs.declared.teller.Ended.{Ended}
 use Rattle.docket_words.specs.declared.teller.Ended.TheVariants.{NoMemory, Refused}
@@ -92,11 +90,6 @@ module _ {B : Type 0} (kind : Kind B) (words : B → List ℕ) (places : ℕ) wh
   Going n at rest₀ text₀ k next rest text =
       (after : List ℕ) → ZonesTold kind words places ((n + 1) - k) k next rest text after → ZonesTold kind words places n 1 at rest₀ text₀ after
 
-  pub going_none : (n at : ℕ) (rest text : List ℕ) → Going n at rest text 1 at rest text
-  going_none n at rest text after h =
-      let e : (n + 1) - 1 ≡ n = omega arith in
-      subst (λ (m : ℕ). ZonesTold kind words places m 1 at rest text after) e h
-
   module _ (n at : ℕ) (rest₀ text₀ : List ℕ) (k next : ℕ) (rest text : List ℕ) (more : k ≤ n) (so_far : Going n at rest₀ text₀ k next rest text) where
     one_more : (after : List ℕ) → ZonesTold kind words places (suc ((n + 1) - (k + 1))) k next rest text after → ZonesTold kind words places n 1 at rest₀ text₀ after
     one_more after h =
@@ -122,11 +115,3 @@ module _ {B : Type 0} (kind : Kind B) (words : B → List ℕ) (places : ℕ) wh
   going_all n at rest₀ text₀ k next rest text end so_far =
       let e : 0 ≡ (n + 1) - k = omega arith in
       so_far text (subst (λ (m : ℕ). ZonesTold kind words places m k next rest text text) e refl)
-
-  -- ---- the header, and what follows it
-  pub docket_more : (at next : ℕ) (rest left before middle after : List ℕ) (h : DocketHeader) → placed at (docket_header (take 4 rest)) ≡ Ok h → middle ≡ before ++ head_line h → left ≡ drop 4 rest → next ≡ at + 1 → MarkingTold kind words places h next left middle after → DocketTold kind words places at rest before after
-  docket_more at next rest left before middle after h e grown cut one told =
-      let numbered = subst (λ (n : ℕ). MarkingTold kind words places h n left middle after) one told in
-      let shorter = subst (λ (xs : List ℕ). MarkingTold kind words places h (at + 1) xs middle after) cut numbered in
-      let written = subst (λ (t : List ℕ). MarkingTold kind words places h (at + 1) (drop 4 rest) t after) grown shorter in
-      subst (λ (r : Result DocketHeader EntryFault). told_after kind words places r (at + 1) (drop 4 rest) before after) (sym e) written

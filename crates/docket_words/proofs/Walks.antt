@@ -1,26 +1,18 @@
 -- Steps of the walk through the initial tokens. Assumes nothing.
 use Rattle.std.proofs.Math.Bool.{or_assoc}
-use Rattle.std.proofs.Common.{◌≡◌, ℕ, suc, ◌+◌, ◌-◌, ◌≤◌, Bool, true, false, cond, ◌||◌, leb, List, ◌++◌, take, drop, Ok, Err, Result, sym, refl, ap, ◌∙◌, subst, append_assoc, append-nil, arith}
+use Rattle.std.proofs.Common.{◌≡◌, ℕ, suc, ◌+◌, ◌-◌, ◌≤◌, Bool, true, false, cond, ◌||◌, leb, List, ◌++◌, take, drop, Ok, Err, Result, sym, ap, ◌∙◌, subst, append_assoc, arith}
 use Rattle.std.proofs.lemmas.Result.{err_from_is_err_and}
 use Rattle.std.specs.Result.{MatchResult, IsErrAnd}
 use Rattle.entries.specs.DocketRecords.{initial_token, token_of, token_spare}
 use Rattle.entries.specs.Refusals.{EntryFault}
 use Rattle.entries.specs.declared.fault.EntryRefusal.{EntryRefusal}
 use Rattle.entries.specs.declared.token.InitialToken.{InitialToken}
-use Rattle.docket_words.specs.Ends.{Stepped}
-use Rattle.docket_words.specs.Written.{TokensTold}
-use Rattle.docket_words.specs.declared.teller.Ended.{Ended}
-use Rattle.docket_words.specs.declared.teller.Ended.TheVariants.{NoMemory, Refused}
-use Rattle.docket_words.specs.Initial.{placed, initial_line, refusal_line, is_read, token_text_by, tokens_text, tokens_read, some_outside, after_tokens, TokensRead, TokensRefused}
+use Rattle.docket_words.specs.Initial.{placed, initial_line, is_read, token_text_by, tokens_text, tokens_read, some_outside, after_tokens}
 
 -- ---- what a record that was placed says
 pub placed_ok : {X : Type 0} (at : ℕ) (r : Result X EntryRefusal) (x : X) → placed at r ≡ Ok x → r ≡ Ok x
 placed_ok at (Ok y) x e = let same : y ≡ x = cc in ap Ok same
 placed_ok at (Err refusal) x e = let z : ◌≡◌ {A = ℕ} 0 1 = cc in absurd (omega arith)
-
-pub placed_err : {X : Type 0} (at : ℕ) (r : Result X EntryRefusal) (f : EntryFault) (later : Bool) → placed at r ≡ Err f → is_read r later ≡ false
-placed_err at (Ok y) f later e = let z : ◌≡◌ {A = ℕ} 0 1 = cc in absurd (omega arith)
-placed_err at (Err refusal) f later e = refl
 
 -- a refusal that was given the number of its record
 pub placed_from : {X : Type 0} (P : EntryRefusal → EntryFault → Type 0) (at : ℕ) (r : Result X EntryRefusal) (q : Result X EntryFault) → MatchResult r (λ x. q ≡ Ok x) (λ e. IsErrAnd q (P e)) → ((e : EntryRefusal) (f : EntryFault) → P e f → f ≡ record { refusal = e; at = at }) → q ≡ placed at r
@@ -42,17 +34,6 @@ pub record Walked (places n at : ℕ) (rest₀ text₀ : List ℕ) (k next : ℕ
   pub outer : (outside || some_outside places ((n + 1) - k) rest) ≡ some_outside places n rest₀
   pub left : after_tokens ((n + 1) - k) rest ≡ after_tokens n rest₀
   pub number : next + ((n + 1) - k) ≡ at + n
-
-pub walked_none : (places n at : ℕ) (rest text : List ℕ) → Walked places n at rest text 1 at rest text false
-walked_none places n at rest text =
-    let e : (n + 1) - 1 ≡ n = omega arith in
-    record {
-      written = ap (λ m. text ++ tokens_text m 1 at rest) e;
-      read = ap (λ m. tokens_read m rest) e;
-      outer = ap (λ m. some_outside places m rest) e;
-      left = ap (λ m. after_tokens m rest) e;
-      number = omega arith;
-    }
 
 module _ (places n at : ℕ) (rest₀ text₀ : List ℕ) (k next : ℕ) (rest text : List ℕ) (outside : Bool) (more : k ≤ n) (so_far : Walked places n at rest₀ text₀ k next rest text outside) where
   one_more : (n + 1) - k ≡ suc ((n + 1) - (k + 1))
@@ -86,38 +67,3 @@ module _ (places n at : ℕ) (rest₀ text₀ : List ℕ) (k next : ℕ) (rest t
       let outer = outside || leb places token.place in
       subst (λ (j : ℕ). Walked places n at rest₀ text₀ (k + 1) j rest' text' outer) (sym one)
       (subst (λ (xs : List ℕ). Walked places n at rest₀ text₀ (k + 1) (next + 1) xs text' outer) (sym cut) (walked_more token text' e grown))
-
-  pub walked_fault : (fault : EntryFault) (text' : List ℕ) → placed next (initial_token (take 3 rest)) ≡ Err fault → text' ≡ text ++ refusal_line fault → TokensRefused n at rest₀ text₀ text'
-  walked_fault fault text' e grown =
-      let m = (n + 1) - (k + 1) in
-      let later = tokens_text m (k + 1) (next + 1) (drop 3 rest) in
-      record {
-        refused = sym so_far.read ∙ ap (λ j. tokens_read j rest) one_more ∙ placed_err next (initial_token (take 3 rest)) fault (tokens_read m (drop 3 rest)) e;
-        text =
-            grown
-            ∙ ap (λ r. text ++ token_text_by k r later) (sym e)
-            ∙ ap (λ j. text ++ tokens_text j k next rest) (sym one_more)
-            ∙ so_far.written;
-      }
-
-  -- a token's fault, or memory that ran out, handed on
-  pub walked_out : (e : Ended) (next' : ℕ) (rest' text' : List ℕ) (r : Result Bool Ended) (f : Ended) → Stepped (placed next (initial_token (take 3 rest))) (initial_line k) text text' (Err e) → r ≡ Err f → f ≡ e → TokensTold places n at rest₀ text₀ text' next' rest' r
-  walked_out (Refused fault) next' rest' text' r f h is same =
-      subst (λ (q : Result Bool Ended). TokensTold places n at rest₀ text₀ text' next' rest' q) (sym (is ∙ ap Err same)) (walked_fault fault (text' ++ refusal_line fault) h.0 (ap (λ t. t ++ refusal_line fault) h.1))
-  walked_out (NoMemory m) next' rest' text' r f h is same =
-      subst (λ (q : Result Bool Ended). TokensTold places n at rest₀ text₀ text' next' rest' q) (sym (is ∙ ap Err same)) tt
-
-pub walked_all : (places n at : ℕ) (rest₀ text₀ : List ℕ) (k next : ℕ) (rest text : List ℕ) (outside : Bool) → k ≡ n + 1 → Walked places n at rest₀ text₀ k next rest text outside → TokensRead places n at rest₀ text₀ text next rest outside
-walked_all places n at rest₀ text₀ k next rest text outside end w =
-    let e : 0 ≡ (n + 1) - k = omega arith in
-    record {
-      read = sym (ap (λ j. tokens_read j rest) e ∙ w.read);
-      text = sym (append-nil text) ∙ ap (λ j. text ++ tokens_text j k next rest) e ∙ w.written;
-      outside_is = or_none outside ∙ ap (λ j. outside || some_outside places j rest) e ∙ w.outer;
-      rest_is = ap (λ j. after_tokens j rest) e ∙ w.left;
-      next_is = omega (arith, w.number);
-    }
-  where
-    or_none : (b : Bool) → b ≡ (b || false)
-    or_none true = refl
-    or_none false = refl

@@ -2,7 +2,7 @@
 -- nothing is said.
 --     before, after    the text so far, and the text with what the step told
 -- Assumes nothing.
-use Rattle.std.specs.Prelude.{◌≡◌, List, ℕ, ◌++◌, Ok, Err, Result}
+use Rattle.std.specs.Prelude.{◌≡◌, List, [], ◌∷◌, ℕ, ◌++◌, Ok, Err, Result, Option, IfSome}
 use Rattle.entries.specs.Refusals.{EntryFault}
 use Rattle.docket_words.specs.Initial.{refusal_line}
 use Rattle.docket_words.specs.declared.teller.Ended.{Ended}
@@ -19,3 +19,9 @@ abbrev pub Stepped : {X : Type 0} → Result X EntryFault → (X → List ℕ) �
 Stepped read words before after (Ok x) = (read ≡ Ok x) × (after ≡ before ++ words x)
 Stepped read words before after (Err (Refused fault)) = (read ≡ Err fault) × (after ≡ before)
 Stepped read words before after (Err (NoMemory e)) = Unit {0}
+
+-- the same, where the words are what a function gives, and displays
+abbrev pub SteppedBy : {X W : Type 0} → Result X EntryFault → (X → W → Type 0) → (W → Option (List ℕ)) → List ℕ → List ℕ → Result X Ended → Type 0
+SteppedBy {X} {W} read Gives output before after (Ok x) = (read ≡ Ok x) × ((words : W) × Gives x words × IfSome (output words) (λ text. after ≡ before ++ (text ++ (10 ∷ []))))
+SteppedBy read Gives output before after (Err (Refused fault)) = (read ≡ Err fault) × (after ≡ before)
+SteppedBy read Gives output before after (Err (NoMemory e)) = Unit {0}

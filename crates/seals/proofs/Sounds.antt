@@ -1,5 +1,6 @@
 -- The pages of a docket that agrees with its calls are sound, and so is the item that is due. Assumes nothing.
-use Rattle.std.proofs.Common.{◌≡◌, ℕ, Bool, true, false, List, length, drop, Option, Some, None, refl, sym, ap, subst, arith}
+use Rattle.std.proofs.Common.{◌≡◌, ℕ, Bool, true, false, List, length, drop, Option, Some, None, refl, sym, ap, ◌∙◌, subst, arith}
+use Rattle.std.proofs.lemmas.Bool.{false≢true}
 use Rattle.bounds.specs.Kinds.{Kind}
 use Rattle.dues.specs.Answered.{places_of_all}
 use Rattle.dues.specs.DueLaws.{IsDue}
@@ -10,7 +11,7 @@ use Rattle.nets.specs.Nets.{Net}
 use Rattle.seals.specs.Calls.{Sound, stage_of}
 use Rattle.seals.specs.Logs.{Log, Opening}
 use Rattle.seals.specs.Promise.{proving_stage, stage_said}
-use Rattle.seals.specs.Tables.{due_in}
+use Rattle.seals.specs.Tables.{due_in, is_proving}
 use Rattle.seals.specs.Worlds.{World, listed_pages}
 use Rattle.seals.proofs.Agrees.{AgreesAs, AgreesOpened}
 use Rattle.seals.proofs.Listed.{counts_length, places_listed}
@@ -38,6 +39,7 @@ module _ {B : Type 0} (kind : Kind B) (net : Net B) (log : Log B) (w : World B) 
   opened_sound o a =
       let said = subst (λ l. IsDue net l (due_in (stage_said net log (Some o) log.closed))) (sym (places_listed kind net log o w a)) (said_is_due o a log.closed) in
       record {
+        opened = λ proving. omega (arith, counts_length kind net log o w a);
         pages = λ p below. (a.pages p (omega (arith, below, counts_length kind net log o w a))).formed;
         due = subst (λ s. IsDue net (places_of_all (listed_pages kind w)) (due_in s)) (sym a.stage) said;
       }
@@ -45,6 +47,7 @@ module _ {B : Type 0} (kind : Kind B) (net : Net B) (log : Log B) (w : World B) 
   pub agrees_sound : (o : Option (Opening B)) → AgreesAs kind net log w o → Sound kind net w
   agrees_sound None a =
       record {
+        opened = λ proving. absurd (false≢true (ap (λ s. is_proving s.stage) (sym a.1) ∙ proving));
         pages = λ p below. let none = ap (λ s. length s.counts) a.1 in absurd (omega (arith, below, none));
         due = subst (λ s. IsDue net (places_of_all (listed_pages kind w)) (due_in s.stage)) (sym a.1) (refl, refl);
       }

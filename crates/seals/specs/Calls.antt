@@ -15,7 +15,7 @@ use Rattle.entries.specs.declared.token.InitialToken.{InitialToken}
 use Rattle.nets.specs.Nets.{Net}
 use Rattle.refusals.specs.declared.refusal.CallRefusal.{CallRefusal}
 use Rattle.refusals.specs.declared.refusal.CallRefusal.TheVariants.{WrongStage, WrongMemory, FullList, Entry, Covered, NotVoid, VoidItem as IsVoid, NoSuchZone, Objected}
-use Rattle.seals.specs.Tables.{Answer, Answers, open_table, post_table, close_table, discharge_table, discharge_rows, Begins, due_in}
+use Rattle.seals.specs.Tables.{Answer, Answers, open_table, post_table, close_table, discharge_table, discharge_rows, Begins, due_in, is_proving}
 use Rattle.seals.specs.Worlds.{State, World, listed_pages, page_of}
 use Rattle.seals.specs.declared.stage.Stage.{Stage}
 use Rattle.seals.specs.declared.stage.Stage.TheVariants.{Blank, Listing, Proving, Sealed}
@@ -110,8 +110,10 @@ stage_of (Some d) = Proving d
 abbrev pub most_taken : ℕ
 most_taken = 2 ^ 64 - 1
 
--- the pages are as open and post left them, and the item that is due is one of those that there are for them
+-- the pages are as open and post left them, the target's among them where items are due, and the item that is due is one of those
+-- that there are for them
 pub record Sound {B : Type 0} (kind : Kind B) (net : Net B) (w : World B) : Type 0 where
+  pub opened : is_proving w.state.stage ≡ true → 1 ≤ length w.state.counts
   pub pages : (p : ℕ) → p < length w.state.counts → PageFormed kind (page_of kind w p)
   pub due : IsDue net (places_of_all (listed_pages kind w)) (due_in w.state.stage)
 

@@ -1,7 +1,7 @@
 // The refusals of a docket's calls.
 ghost use Rattle.entries.specs.declared.fault.EntryRefusal.TheVariants.{WrongLength};
 ghost use Rattle.refusals.specs.CallRefusals.{call_number, call_text};
-ghost use Rattle.refusals.specs.declared.refusal.CallRefusal.TheVariants.{Entry};
+ghost use Rattle.refusals.specs.declared.refusal.CallRefusal.TheVariants.{Entry, Objected};
 ghost use Rattle.std.specs.Prelude.{◌≡◌, Some, refl};
 
 use books::Objection;
@@ -36,6 +36,14 @@ impl From<EntryRefusal> for CallRefusal {
 
     fn from(refusal: EntryRefusal) -> CallRefusal {
         CallRefusal::Entry(refusal)
+    }
+}
+
+impl From<Objection> for CallRefusal {
+    ghost from_gives = { λ o r. r ≡ Objected o };
+
+    fn from(objection: Objection) -> CallRefusal {
+        CallRefusal::Objected(objection)
     }
 }
 

@@ -10,7 +10,7 @@ use Rattle.entries.specs.declared.voucher.Voucher.{Voucher}
 use Rattle.nets.specs.Nets.{Limits, Net}
 use Rattle.seals.specs.Calls.{Call, Open, Post, Close, Discharge, NextDue, Discharged, Played, Step}
 use Rattle.seals.specs.Logs.{Log, Opening, still_due, with_call}
-use Rattle.seals.specs.Promise.{Allowed, NotTaken, Vouching, Vouchs, proving_stage, stage_said}
+use Rattle.seals.specs.Promise.{Allowed, NotTaken, Vouching, VoucherFits, proving_stage, stage_said}
 use Rattle.seals.specs.Promise.Vouching.{done, vouch, between}
 use Rattle.seals.specs.Tables.{partners_used}
 use Rattle.seals.specs.Worlds.{World}
@@ -30,9 +30,9 @@ read w = read_as w.state.counts w.cells w.places
 
 module _ {B : Type 0} (kind : Kind B) (net : Net B) where
   -- ---- a voucher that was allowed still is
-  vouches_read : (w v : World B) (d : Due) (said : Voucher) (void : Bool) → read v ≡ read w → Vouchs kind net w d said void → Vouchs kind net v d said void
-  vouches_read w v d said true same h = subst (λ u. Vouchs kind net u d said true) (sym same) h
-  vouches_read w v d said false same h = subst (λ u. Vouchs kind net u d said false) (sym same) h
+  vouches_read : (w v : World B) (d : Due) (said : Voucher) (void : Bool) → read v ≡ read w → VoucherFits kind net w d said void → VoucherFits kind net v d said void
+  vouches_read w v d said true same h = subst (λ u. VoucherFits kind net u d said true) (sym same) h
+  vouches_read w v d said false same h = subst (λ u. VoucherFits kind net u d said false) (sym same) h
 
   allowed_read : (w v : World B) (d : Due) (bytes : List ℕ) → read v ≡ read w → Allowed kind net w d bytes → Allowed kind net v d bytes
   allowed_read w v d bytes same h =

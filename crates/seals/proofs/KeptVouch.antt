@@ -12,7 +12,7 @@ use Rattle.entries.specs.declared.voucher.Voucher.{Voucher}
 use Rattle.nets.specs.Nets.{Net}
 use Rattle.zones.specs.Vouching.{Vouches}
 use Rattle.zones.specs.Zones.{Zone}
-use Rattle.seals.specs.Promise.{Allowed, Vouchs}
+use Rattle.seals.specs.Promise.{Allowed, VoucherFits}
 use Rattle.seals.specs.Tables.{Against, Answer, Answers, Asks, discharge_table, due_in, is_proving, item_rows, pairing_of}
 use Rattle.seals.specs.Worlds.{World, listed_pages, page_of, whole}
 use Rattle.seals.specs.declared.stage.Stage.TheVariants.{Proving}
@@ -33,7 +33,7 @@ module _ {B : Type 0} (kind : Kind B) (net : Net B) (w : World B) (d : Due) wher
       let none = nothing kind (page_of kind w v.zone) against.asked (pairing_of w.state v) stands in
       true≢false (ap is_err (sym against.stands ∙ none))
 
-  item_taken : (v : Voucher) (answer : Answer) (void : Bool) → v.void ≡ void → Vouchs kind net w d v void → Answers (item_rows kind net w d v) answer → answer ≡ Ok tt
+  item_taken : (v : Voucher) (answer : Answer) (void : Bool) → v.void ≡ void → VoucherFits kind net w d v void → Answers (item_rows kind net w d v) answer → answer ≡ Ok tt
   item_taken v answer true is vouches rows =
       past (λ h. both_not is h.0) (past (λ h. both_not is h.0) (past (λ h. both_not is h.0) (past (λ h. both_not is h.0) (past (λ h. both_not is h.0) (past (λ h. h.1 vouches) rows)))))
   item_taken v answer false is vouches rows =

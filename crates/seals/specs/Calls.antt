@@ -40,7 +40,7 @@ abbrev pub Left : {B : Type 0} → Kind B → Answer → (lent left : List B) �
 Left kind answer lent left = left ≡ cond (is_early answer) lent (replicate 169 kind.no_limit)
 
 -- ---- a page written
--- the cells of a zone with so many tokens, row by row: zero from a point to itself, and no limit at the other cells of absent tokens
+-- the cells of a zone with so many tokens, row by row: the zone's own bounds between its points; else zero from a point to itself, and no limit
 abbrev pub cell_of : {B : Type 0} → Kind B → (tokens : ℕ) → Matrix B → ℕ → ℕ → B
 cell_of kind tokens x j i = cond (nat_le j tokens && nat_le i tokens) (x j i) (cond (j == i) kind.zero kind.no_limit)
 
@@ -158,7 +158,7 @@ Step kind net before (Close answer) after = Closes before.state after.state answ
 Step kind net before (Discharge voucher lent answer) after = (left : List _) × Discharges kind net voucher lent left before after answer
 Step kind net before (NextDue answer) after = (answer ≡ next_due_of before.state.stage) × (after ≡ before)
 
--- calls one after the other, on one docket, over one store and one book
+-- calls one after the other, on one docket, over one store and one book that nothing else writes to between them
 abbrev pub Played : {B : Type 0} → Kind B → Net B → World B → List (Call B) → World B → Type 0
 Played kind net w [] u = u ≡ w
 Played kind net w (c ∷ calls) u = (v : World _) × Step kind net w c v × Played kind net v calls u

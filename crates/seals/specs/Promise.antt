@@ -2,6 +2,8 @@
 --     truth        a seal is true, for runs of every length on every grid
 --     exactness    each call is taken exactly when no row of its table holds, and else answers the first row's number; sealed exactly when nothing is due
 --     reach        a voucher for each item that is still due, in due order, seals, whatever refused calls come between
+-- A step is what the contracts of the five calls say: that a call answers at all, what it leaves in the scratch page, and that a
+-- refusal changes nothing stand there, and not here.
 -- Assumes nothing.
 use Rattle.std.specs.Prelude.{◌≡◌, ℕ, ◌≤◌, Bool, true, false, ◌||◌, List, [], ◌∷◌, length, Err, Some, None, Option}
 use Rattle.bounds.specs.Kinds.{Kind}
@@ -64,14 +66,14 @@ PagesSaid kind w listed = (p : ℕ) (none : Zone _) → 1 ≤ p → p ≤ length
 
 -- ---- reach
 -- the voucher is allowed for the item: it claims a void item void, or names a listed zone and a pairing through which that zone vouches for the item
-abbrev pub Vouchs : {B : Type 0} → Kind B → Net B → World B → Due → Voucher → Bool → Type 0
-Vouchs kind net w d v true = IsVoidItem kind net w d
-Vouchs kind net w d v false = (IsVoidItem kind net w d → ⊥) × (in_list w.state v.zone ≡ true) × ((asked : Zone _) × Asks kind net w d asked × Vouches kind (page_of kind w v.zone) asked (pairing_of w.state v))
+abbrev pub VoucherFits : {B : Type 0} → Kind B → Net B → World B → Due → Voucher → Bool → Type 0
+VoucherFits kind net w d v true = IsVoidItem kind net w d
+VoucherFits kind net w d v false = (IsVoidItem kind net w d → ⊥) × (in_list w.state v.zone ≡ true) × ((asked : Zone _) × Asks kind net w d asked × Vouches kind (page_of kind w v.zone) asked (pairing_of w.state v))
 
 pub record Allowed {B : Type 0} (kind : Kind B) (net : Net B) (w : World B) (d : Due) (bytes : List ℕ) : Type 0 where
   pub size : length bytes ≡ 6
   pub clean : voucher_spare bytes || unused_set (voucher_of bytes) (partners_used w.state (voucher_of bytes)) ≡ false
-  pub vouches : Vouchs kind net w d (voucher_of bytes) (voucher_of bytes).void
+  pub vouches : VoucherFits kind net w d (voucher_of bytes) (voucher_of bytes).void
 
 -- refused, or next-due
 abbrev pub NotTaken : {B : Type 0} → Call B → Type 0

@@ -8,12 +8,17 @@ use Rattle.entries.specs.Refusals.{EntryFault}
 use Rattle.entries.specs.declared.fault.EntryRefusal.{EntryRefusal}
 use Rattle.entries.specs.declared.fault.EntryRefusal.TheVariants.{WrongLength}
 use Rattle.arrayvec.specs.ArrayVec.{ArrayVec}
+use Rattle.explaining.specs.Explained.{net_text}
+use Rattle.explaining.proofs.Texts.{net_whole}
+use Rattle.records.specs.NetRecords.{header_of, sound}
+use Rattle.records.proofs.Clean.{sound_clean}
+use Rattle.records.specs.declared.header.NetHeader.{NetHeader}
 use Rattle.records.specs.Parts.{Parted}
 use Rattle.records.specs.declared.fault.Missing.{Missing}
 use Rattle.records.specs.declared.reader.Part.{Part}
 use Rattle.docket_words.specs.Ends.{Ends}
 use Rattle.docket_words.specs.Initial.{placed, refusal_line}
-use Rattle.docket_words.specs.Told.{SaidAfter, ZoneTold, ZonesTold}
+use Rattle.docket_words.specs.Told.{SaidAfter, PartTold, FileTold, told_under, ZoneTold, ZonesTold}
 use Rattle.docket_words.specs.Written.{ZoneRead, ZoneWritten}
 use Rattle.docket_words.specs.declared.teller.Ended.{Ended}
 use Rattle.docket_words.specs.declared.teller.Ended.TheVariants.{NoMemory, Refused}
@@ -49,6 +54,13 @@ passed_more whole passed rest left first next after t k r long more cut so_far n
 pub passed_all : (whole passed rest : List ℕ) (t k : ℕ) → k ≡ t → passed ≡ drop 4 whole → rest ≡ drop (41 * k) passed → rest ≡ drop (4 + 41 * t) whole
 passed_all whole passed rest t k end cut so_far =
     so_far ∙ ap (λ m. drop (41 * m) passed) end ∙ ap (drop (41 * t)) cut ∙ drop-drop (41 * t) 4 whole
+
+-- ---- the file of a net without fault
+pub file_told : (bytes held text after : List ℕ) (h : NetHeader) → held ≡ bytes → sound bytes ≡ true → h ≡ header_of (take 4 held) → text ≡ net_text held → PartTold h bytes text after → FileTold bytes after
+file_told bytes held text after h same clean is whole told =
+    let header = subst (λ k. PartTold k bytes text after) (is ∙ ap (λ xs. header_of (take 4 xs)) same) told in
+    let written = subst (λ t. PartTold (header_of (take 4 bytes)) bytes t after) (whole ∙ net_whole bytes held clean same) header in
+    subst (λ f. told_under bytes f after) (sym (sound_clean bytes clean)) written
 
 module _ {B : Type 0} (kind : Kind B) (places : ℕ) where
   pub missing_said : (known : Result Unit EntryRefusal) (rest : List ℕ) (cells : List B) → length rest < 192 → SaidAfter kind places known (take 192 rest) cells (Err WrongLength)

@@ -8,9 +8,9 @@ use crate::listed::marking_refusal;
 use crate::teller::{Ended, Teller};
 use bounds::{Bound, MarkedBound, PlainBound};
 use entries::docket::DocketHeader;
-use explaining::explain;
+use explaining::{NetLines, explain};
 use records::header::{NetHeader, NetKind};
-use records::net::check_net;
+use records::packed::PackedNet;
 use records::reader::Reader;
 use records::transition::TransitionRecord;
 use std::alloc::{AllocError, Global};
@@ -100,13 +100,16 @@ fn with_docket(text: String, bytes: &[u8], net: NetHeader) -> Result<String, All
     }
 }
 
-// What a file says, line by line: the net, and then the docket part up to its vouchers, or why it is refused.
+// What a file says, line by line: the net, and then the docket part up to its vouchers, or why it is refused. The only error is memory
+// that is not there.
 pub fn explain_file(heap: Global, bytes: &[u8]) -> Result<String, AllocError>
     ensures { IfOk result (λ s. FileTold bytes.now (string_bytes s)) }
 {
-    let text = explain(heap, bytes)?;
-    match check_net(bytes) {
-        Ok(net) => with_docket(text, bytes, net),
-        Err(_) => Ok(text),
+    match PackedNet::read(bytes) {
+        Ok(net) => {
+            let text = NetLines(net).to_string(heap)?;
+            with_docket(text, bytes, net.header())
+        }
+        Err(_) => explain(heap, bytes),
     }
 }

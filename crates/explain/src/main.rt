@@ -1,13 +1,13 @@
-// Reads the net part of a file from standard input, and prints it in words or why it is refused.
+// Reads a file from standard input, and prints its net and its docket part in words or why they are refused.
 #![tactic(auto)]
 
-use explaining::explain;
+use docket_words::explain_file;
 use std::io::Read;
 
 fn main(rt: HostRuntime) -> anyhow::Result<()> {
     let mut bytes = Vec::new(rt.alloc());
     rt.stdin().read_to_end(&mut bytes)?;
-    let text = explain(rt.alloc(), &bytes)?;
+    let text = explain_file(rt.alloc(), &bytes)?;
     rt.print(text)?;
     Ok(())
 }

@@ -8,5 +8,5 @@ pub mod summary;
 
 pub use ages::Ages;
 pub use arc::ArcWords;
-pub use net::explain;
+pub use net::{NetLines, explain};
 pub use summary::{Counted, Summary};

@@ -24,7 +24,7 @@ struct TransitionLines<'a> {
 }
 
 #[derive(Clone, Copy)]
-struct NetLines<'a>(PackedNet<'a>);
+pub struct NetLines<'a>(pub PackedNet<'a>);
 
 impl<'a> fmt::Display for SideLines<'a> {
     ghost output = { λ s. Some (side_lines s.net.bytes.now s.transition s.side) };
@@ -75,7 +75,7 @@ impl<'a> fmt::Display for NetLines<'a> {
     }
 }
 
-// What the bytes say, line by line: the net, or in one line why they are refused.
+// What the bytes say, line by line: the net, or in one line why they are refused. The only error is memory that is not there.
 pub fn explain(heap: Global, bytes: &[u8]) -> Result<String, AllocError>
     ensures { IfOk result (λ s. string_bytes s ≡ explained_text bytes.now) }
 {

@@ -12,13 +12,14 @@ use items::next_due;
 use markings::{InitialTokens, satisfies};
 use reading::read_zone;
 use records::packed::PackedNet;
+use std::alloc::{AllocError, Global};
 use std::test::Fail;
 
 // The places of the tokens of the target, which none are asked of, and of the three listed zones.
 const PLACES: [&[u8]; 4] = [&[], &[1, 1], &[1, 0], &[0, 0]];
 
 // Zone, transition and matching of each item, in order.
-const ITEMS: [(u8, u8, u16); 10] = [
+pub const ITEMS: [(u8, u8, u16); 10] = [
     (0, 0, 0),
     (1, 0, 0),
     (1, 1, 0),
@@ -31,7 +32,7 @@ const ITEMS: [(u8, u8, u16); 10] = [
     (3, 1, 0),
 ];
 
-fn item(listed: (u8, u8, u16)) -> Due {
+pub fn item(listed: (u8, u8, u16)) -> Due {
     let (zone, transition, matching) = listed;
     Due {
         zone,
@@ -40,15 +41,19 @@ fn item(listed: (u8, u8, u16)) -> Due {
     }
 }
 
-#[test]
-fn ten_items_are_due(rt: HostRuntime) -> Result<(), Fail> {
-    // from place 0, age 1 to 2, into place 1 at age 0
-    let bytes = one_transition(
-        rt.alloc(),
+// A net of two places: from place 0, age 1 to 2, into place 1 at age 0.
+pub fn two_carriers(heap: Global) -> Result<Vec<u8>, AllocError> {
+    one_transition(
+        heap,
         &[0x41, 0x02, 0x00, 0x00],
         [0x00, 0x00, 0x04, 0x00, 0x04],
         [0x04, 0x00, 0x00, 0x00, 0x00],
-    )?;
+    )
+}
+
+#[test]
+fn ten_items_are_due(rt: HostRuntime) -> Result<(), Fail> {
+    let bytes = two_carriers(rt.alloc())?;
     let store = PackedNet::new(&bytes);
     let followers = ITEMS.iter().skip(1).map(|later| Some(item(*later)));
     for (listed, later) in ITEMS.iter().zip(followers.chain([None])) {

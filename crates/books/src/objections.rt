@@ -1,6 +1,8 @@
 // What can stand against a page's vouching for an item.
-ghost use Rattle.books.specs.Objections.{objection_number};
-ghost use Rattle.std.specs.Prelude.{◌≡◌};
+ghost use Rattle.books.specs.Objections.{objection_number, objection_text};
+ghost use Rattle.std.specs.Prelude.{◌≡◌, Some};
+
+use std::fmt;
 
 // By number; the lowest number that holds counts.
 #[derive(Clone, Copy, PartialEq, Eq, Debug)]
@@ -19,5 +21,17 @@ impl Objection {
         ensures { result ≡ objection_number self }
     {
         self as u8
+    }
+}
+
+impl fmt::Display for Objection {
+    ghost output = { λ o. Some (objection_text o) };
+
+    fn fmt<W: fmt::Write>(&self, f: &mut fmt::Formatter<W>) -> fmt::Result {
+        f.write_str(match self {
+            Objection::Partner => "a partner is no token of the item, or is used twice",
+            Objection::Place => "a token stands in another place than its partner",
+            Objection::Bound => "a bound of the item is larger than the zone's",
+        })
     }
 }

@@ -55,6 +55,7 @@ impl<'a, 'b, 'c, 'd, 'e, B: Bound> Claim<'a, 'b, 'c, 'd, 'e, B> {
         !(1..=self.item.places.len()).contains(&partner) || self.is_taken(k)
     }
 
+    // By number here and below, since each test takes the number of a token or a point.
     fn lacks_partners(&self) -> bool
         ensures { result ≡ partners_unsound self.now.page.places.now self.now.item.places.now self.now.pairing.now }
     {
@@ -62,7 +63,7 @@ impl<'a, 'b, 'c, 'd, 'e, B: Bound> Claim<'a, 'b, 'c, 'd, 'e, B> {
             || (0..self.pairing.len()).any(|k| self.is_unsound(k))
     }
 
-    // By number and not by `zip`, since the pairing and the page's places may differ in length.
+    // Not by `zip`, since the pairing and the page's places may differ in length.
     fn places_differ(&self) -> bool
         ensures { result ≡ places_differ self.now.page.places.now self.now.item.places.now self.now.pairing.now }
     {
@@ -80,7 +81,6 @@ impl<'a, 'b, 'c, 'd, 'e, B: Bound> Claim<'a, 'b, 'c, 'd, 'e, B> {
         j != i && !of_item.at_most(of_page)
     }
 
-    // By number here and below, since each test takes the number of a point.
     fn row_exceeds(&self, j: usize) -> bool
         ensures { result ≡ exceeds_in_row B.Bound.kind (in_page B.Bound.kind self.now.page.cells.now) (in_draft B.Bound.kind self.now.item.cells.now) self.now.pairing.now j }
     {

@@ -9,6 +9,7 @@ use crate::teller::{Ended, Teller};
 use bounds::{Bound, MarkedBound, PlainBound};
 use entries::docket::DocketHeader;
 use explaining::{NetLines, explain};
+use pages::draft::DRAFT_CELLS;
 use records::header::{NetHeader, NetKind};
 use records::packed::PackedNet;
 use records::reader::Reader;
@@ -52,7 +53,7 @@ fn with_records<B: BoundWords>(
     text: String,
     reader: Reader<'_>,
     places: u8,
-    cells: &mut [B; 169],
+    cells: &mut [B; DRAFT_CELLS],
 ) -> Result<String, AllocError>
     ensures { IfOk result (λ s. DocketTold B.Bound.kind B.BoundWords.words places reader.entry.next reader.entry.rest.now (string_bytes text) (string_bytes s)) }
 {
@@ -89,13 +90,13 @@ fn with_docket(text: String, bytes: &[u8], net: NetHeader) -> Result<String, All
             text,
             reader,
             net.places,
-            &mut [PlainBound::no_limit(); 169],
+            &mut [PlainBound::no_limit(); DRAFT_CELLS],
         ),
         NetKind::Marked => with_records(
             text,
             reader,
             net.places,
-            &mut [MarkedBound::no_limit(); 169],
+            &mut [MarkedBound::no_limit(); DRAFT_CELLS],
         ),
     }
 }

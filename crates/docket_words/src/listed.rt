@@ -14,12 +14,13 @@ use pages::tokens::Tokens;
 use reading::read_zone;
 use records::fault::Fault;
 use records::reader::Part;
+use zones::MOST_TOKENS;
 
 // What is wrong with an initial marking, lowest number first. The target's record answers by it, once its own length is tested.
 pub(crate) fn marking_refusal(tokens: u8, outside: bool) -> Result<(), EntryRefusal>
     ensures { result ≡ marking_refusal tokens outside }
 {
-    if 8 < tokens {
+    if MOST_TOKENS < tokens {
         Err(EntryRefusal::TooMany)
     } else if outside {
         Err(EntryRefusal::NoSuchPlace)

@@ -1,6 +1,7 @@
 // An item that is due.
 
-// A zone, a transition and a matching, by their numbers. Zone 0 is the target, and transition 0 a delay.
+// A zone, a transition and a matching, by their numbers. Zone 0 is the target, and transition 0 a delay. Numbers and not an enum, since
+// callers name items so, and print them.
 #[derive(Clone, Copy, PartialEq, Eq, Debug)]
 pub struct Due {
     pub zone: u8,

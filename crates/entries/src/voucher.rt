@@ -5,6 +5,7 @@ ghost use Rattle.std.specs.Prelude.{◌≡◌};
 use crate::bits::bits;
 use crate::record::Record;
 
+// The fields as they stand and not an enum: those that a voucher does not use are tested too.
 #[derive(Clone, Copy, PartialEq, Eq, Debug)]
 pub struct Voucher {
     pub void: bool,

@@ -41,7 +41,7 @@ impl fmt::Display for Ages {
         };
         match slot.upper {
             None if slot.lower.strict => write!(f, "age {least}, no upper limit"),
-            None if slot.lower.number == 0 => write!(f, "any age"),
+            None if slot.lower.number == 0 => f.write_str("any age"),
             None => write!(f, "age {least} or more"),
             Some(upper) if upper == slot.lower && !upper.strict => write!(f, "age {least}"),
             Some(upper) => {

@@ -23,7 +23,7 @@ impl NetStore<PlainBound> for Handover {
         u8::from(transition == 1)
     }
 
-    // The input arc has place 0, which is also the answer where there is no such arc.
+    // The arcs are these two, so a match says each answer; the input arc has place 0, which is also the answer where there is no such arc.
     fn place(&self, transition: u8, side: Side, arc: u8) -> u8 {
         match (transition, side, arc) {
             (1, Side::Output, 1) => 1,

@@ -8,6 +8,9 @@ ghost use Rattle.walks.specs.Walks.{lesser as least_of};
 use crate::bytes::byte;
 use bounds::{Bound, Range};
 
+// 13 points a side.
+pub const DRAFT_CELLS: usize = 169;
+
 fn index(j: u8, i: u8) -> usize
     ensures { result ≡ 13 * j + i }
 {

@@ -19,6 +19,7 @@ pub struct TransitionRecord {
     pub inputs: u8,
     pub outputs: u8,
     pub spare: u8,
+    // the record's eight, used or not: the unused ones are tested too
     pub slots: [Slot; 8],
 }
 

@@ -1,8 +1,6 @@
 -- The number and the text of each refusal of a docket's calls. Assumes nothing.
 use Rattle.std.specs.Prelude.{ℕ, List, codes}
-use Rattle.books.specs.Objections.{objection_number}
-use Rattle.books.specs.declared.objections.Objection.{Objection}
-use Rattle.books.specs.declared.objections.Objection.TheVariants.{Partner, Place, Bound}
+use Rattle.books.specs.Objections.{objection_number, objection_text}
 use Rattle.entries.specs.Refusals.{entry_number_of, entry_text}
 use Rattle.refusals.specs.declared.refusal.CallRefusal.{CallRefusal}
 use Rattle.refusals.specs.declared.refusal.CallRefusal.TheVariants.{Entry, Covered, NotVoid, VoidItem, NoSuchZone, Objected, WrongStage, WrongMemory, FullList}
@@ -17,11 +15,6 @@ call_number (Objected o) = objection_number o
 call_number WrongStage = 40
 call_number WrongMemory = 41
 call_number FullList = 42
-
-abbrev pub objection_text : Objection → List ℕ
-objection_text Partner = codes "a partner is no token of the item, or is used twice"
-objection_text Place = codes "a token stands in another place than its partner"
-objection_text Bound = codes "a bound of the item is larger than the zone's"
 
 abbrev pub call_text : CallRefusal → List ℕ
 call_text (Entry e) = entry_text e

@@ -85,12 +85,7 @@ impl fmt::Display for CallRefusal {
             CallRefusal::NotVoid => "the item is not void",
             CallRefusal::VoidItem => "the item is void",
             CallRefusal::NoSuchZone => "there is no listed zone of this number",
-            CallRefusal::Objected(Objection::Partner) =>
-                "a partner is no token of the item, or is used twice",
-            CallRefusal::Objected(Objection::Place) =>
-                "a token stands in another place than its partner",
-            CallRefusal::Objected(Objection::Bound) =>
-                "a bound of the item is larger than the zone's",
+            CallRefusal::Objected(objection) => return write!(f, "{objection}"),
             CallRefusal::WrongStage => "the call does not belong to this stage",
             CallRefusal::WrongMemory =>
                 "lent memory is not of its length, or the lists of initial tokens are unequal",

@@ -10,6 +10,7 @@ use entries::token::InitialToken;
 use entries::voucher::Voucher;
 use items::next_due;
 use markings::{InitialTokens, satisfies};
+use pages::draft::DRAFT_CELLS;
 use reading::read_zone;
 use records::packed::PackedNet;
 use std::alloc::{AllocError, Global};
@@ -93,7 +94,7 @@ fn a_marking_satisfies_a_zone(rt: HostRuntime) -> Result<(), Fail> {
     assert!(rt; !satisfies(&aged(&[0]), &both, &[0, 0]));
     // below 2
     let listed: [Listed; 1] = [(1, 0, BELOW_2)];
-    let mut below_2 = [MarkedBound::no_limit(); 169];
+    let mut below_2 = [MarkedBound::no_limit(); DRAFT_CELLS];
     read_zone(&record(heap, &[1], &listed)?, 3, &mut below_2)?;
     assert!(rt; satisfies(&aged(&[1]), &below_2, &[0]));
     assert!(rt; !satisfies(&aged(&[2]), &below_2, &[0]));

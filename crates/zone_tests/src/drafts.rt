@@ -1,13 +1,13 @@
 // Drafts of records made by hand, and what they hold.
 use crate::zone_records::{Listed, record};
 use bounds::{Bound, PlainBound, bound_of};
-use pages::draft::bound_at;
+use pages::draft::{DRAFT_CELLS, bound_at};
 use reading::read_zone;
 use std::alloc::Global;
 use std::process::Abort;
 use std::test::Fail;
 
-pub type Draft = [PlainBound; 169];
+pub type Draft = [PlainBound; DRAFT_CELLS];
 
 pub fn number(n: i32) -> PlainBound {
     bound_of(n, false)
@@ -15,7 +15,7 @@ pub fn number(n: i32) -> PlainBound {
 
 // The normal form of a record under a net of three places.
 pub fn draft(heap: Global, header: &[u8], listed: &[Listed]) -> Result<Draft, Fail> {
-    let mut cells = [PlainBound::no_limit(); 169];
+    let mut cells = [PlainBound::no_limit(); DRAFT_CELLS];
     read_zone(&record(heap, header, listed)?, 3, &mut cells)?;
     Ok(cells)
 }

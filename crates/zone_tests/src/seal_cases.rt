@@ -3,6 +3,7 @@ use crate::docket_cases::{ITEMS, item, two_carriers};
 use crate::zone_records::record;
 use bounds::{Bound, PlainBound};
 use docket::Docket;
+use pages::draft::DRAFT_CELLS;
 use records::fault::Refusal;
 use records::packed::PackedNet;
 use refusals::CallRefusal;
@@ -30,12 +31,13 @@ const VOUCHERS: [[u8; 6]; 10] = [
 ];
 
 // A docket with its book and its scratch page.
+#[derive(Drop)]
 struct Line<'a> {
     docket: Docket,
     store: PackedNet<'a>,
     cells: Vec<PlainBound>,
     places: Vec<u8>,
-    scratch: [PlainBound; 169],
+    scratch: [PlainBound; DRAFT_CELLS],
 }
 
 impl<'a> Line<'a> {
@@ -49,22 +51,40 @@ impl<'a> Line<'a> {
             store: PackedNet::new(bytes),
             cells,
             places,
-            scratch: [PlainBound::zero(); 169],
+            scratch: [PlainBound::zero(); DRAFT_CELLS],
         })
     }
 
     fn open(&mut self, places: &[u8], ages: &[u16], target: &[u8]) -> Result<(), CallRefusal> {
-        let Line { docket, store, cells, places: book, scratch } = self;
+        let Line {
+            docket,
+            store,
+            cells,
+            places: book,
+            scratch,
+        } = self;
         docket.open(store, cells, book, scratch, places, ages, target)
     }
 
     fn post(&mut self, zone: &[u8]) -> Result<(), CallRefusal> {
-        let Line { docket, store, cells, places, scratch } = self;
+        let Line {
+            docket,
+            store,
+            cells,
+            places,
+            scratch,
+        } = self;
         docket.post(store, cells, places, scratch, zone)
     }
 
     fn discharge(&mut self, voucher: &[u8]) -> Result<(), CallRefusal> {
-        let Line { docket, store, cells, places, scratch } = self;
+        let Line {
+            docket,
+            store,
+            cells,
+            places,
+            scratch,
+        } = self;
         docket.discharge(store, cells, places, scratch, voucher)
     }
 }
@@ -93,7 +113,11 @@ fn ten_vouchers_seal(rt: HostRuntime) -> Result<(), Fail> {
     for (due, voucher) in ITEMS.iter().zip(VOUCHERS.iter()) {
         assert_eq!(rt; line.docket.next_due(), Some(item(*due)));
         line.discharge(voucher)?;
-        assert!(rt; line.scratch.iter().all(|bound| *bound == PlainBound::no_limit()));
+        assert!(rt;
+            line.scratch
+                .iter()
+                .all(|bound| *bound == PlainBound::no_limit())
+        );
     }
     assert_eq!(rt; line.docket.next_due(), None);
     assert_eq!(rt; line.docket.taken(), 10);

@@ -3,6 +3,7 @@ use crate::drafts::{check_bounds, draft};
 use crate::zone_records::*;
 use bounds::{Bound, MarkedBound, PlainBound};
 use pages::delay::delay_predecessor;
+use pages::draft::DRAFT_CELLS;
 use reading::read_zone;
 use records::fault::Refusal;
 use std::alloc::Global;
@@ -20,10 +21,33 @@ fn refused<B: Bound>(bytes: &[u8], cells: &mut [B]) -> Option<u8> {
     Some(refusal.number())
 }
 
-// Checks that number under plain and under marked kind.
-fn check_bytes(rt: &impl Abort, bytes: &[u8], plain: Option<u8>, marked: Option<u8>) {
-    assert_eq!(rt; refused(bytes, &mut [PlainBound::no_limit(); 169]), plain);
-    assert_eq!(rt; refused(bytes, &mut [MarkedBound::no_limit(); 169]), marked);
+// That number under plain and under marked kind.
+#[derive(Clone, Copy)]
+struct Numbers {
+    plain: Option<u8>,
+    marked: Option<u8>,
+}
+
+const TAKEN: Numbers = Numbers {
+    plain: None,
+    marked: None,
+};
+
+const PLAIN_24: Numbers = Numbers {
+    plain: Some(24),
+    marked: None,
+};
+
+fn check_bytes(rt: &impl Abort, bytes: &[u8], numbers: Numbers) {
+    let Numbers { plain, marked } = numbers;
+    assert_eq!(rt;
+        refused(bytes, &mut [PlainBound::no_limit(); DRAFT_CELLS]),
+        plain
+    );
+    assert_eq!(rt;
+        refused(bytes, &mut [MarkedBound::no_limit(); DRAFT_CELLS]),
+        marked
+    );
 }
 
 fn check_case(
@@ -31,11 +55,17 @@ fn check_case(
     heap: Global,
     header: &[u8],
     listed: &[Listed],
-    plain: Option<u8>,
-    marked: Option<u8>,
+    numbers: Numbers,
 ) -> Result<(), Fail> {
-    check_bytes(rt, &record(heap, header, listed)?, plain, marked);
+    check_bytes(rt, &record(heap, header, listed)?, numbers);
     Ok(())
+}
+
+fn both(number: u8) -> Numbers {
+    Numbers {
+        plain: Some(number),
+        marked: Some(number),
+    }
 }
 
 fn check_both(
@@ -45,7 +75,7 @@ fn check_both(
     listed: &[Listed],
     number: u8,
 ) -> Result<(), Fail> {
-    check_case(rt, heap, header, listed, Some(number), Some(number))
+    check_case(rt, heap, header, listed, both(number))
 }
 
 // The same for one token of an age up to a bound, and a bound of the clock's row.
@@ -54,31 +84,23 @@ fn check_ages(
     heap: Global,
     upper: u32,
     lower: u32,
-    plain: Option<u8>,
-    marked: Option<u8>,
+    numbers: Numbers,
 ) -> Result<(), Fail> {
-    check_case(
-        rt,
-        heap,
-        &IN_2,
-        &[(1, 0, upper), (0, 1, lower)],
-        plain,
-        marked,
-    )
+    check_case(rt, heap, &IN_2, &[(1, 0, upper), (0, 1, lower)], numbers)
 }
 
 #[test]
 fn records_are_refused_by_the_lowest_number(rt: HostRuntime) -> Result<(), Fail> {
     let heap = rt.alloc();
-    check_case(&rt, heap, &[0], &[], None, None)?;
-    check_case(&rt, heap, &IN_2, &[], None, None)?;
+    check_case(&rt, heap, &[0], &[], TAKEN)?;
+    check_case(&rt, heap, &IN_2, &[], TAKEN)?;
     // 20, with a spare bit too
     let mut bytes = record(heap, &[0x10], &[])?;
     bytes.push(0)?;
-    check_bytes(&rt, &bytes, Some(20), Some(20));
+    check_bytes(&rt, &bytes, both(20));
     bytes.truncate(191);
-    check_bytes(&rt, &bytes, Some(20), Some(20));
-    check_bytes(&rt, &[], Some(20), Some(20));
+    check_bytes(&rt, &bytes, both(20));
+    check_bytes(&rt, &[], both(20));
     // 21: spare bits, places of tokens 2 and 8, absent bounds, a mark on no limit
     check_both(&rt, heap, &[0x10], &[], 21)?;
     check_both(&rt, heap, &[0x81], &[], 21)?;
@@ -111,21 +133,39 @@ fn records_are_refused_by_the_lowest_number(rt: HostRuntime) -> Result<(), Fail>
     check_both(&rt, heap, &IN_3, &[], 23)?;
     check_both(&rt, heap, &IN_3, &[(1, 0, BELOW_2), (0, 1, MINUS_3)], 23)?;
     // 24 and 25
-    check_ages(&rt, heap, BELOW_3, NO_LIMIT, Some(24), None)?;
-    check_ages(&rt, heap, BELOW_2, MINUS_3, Some(24), Some(25))?;
-    check_ages(&rt, heap, 2, MINUS_3, Some(25), Some(25))
+    check_ages(&rt, heap, BELOW_3, NO_LIMIT, PLAIN_24)?;
+    check_ages(
+        &rt,
+        heap,
+        BELOW_2,
+        MINUS_3,
+        Numbers {
+            plain: Some(24),
+            marked: Some(25),
+        },
+    )?;
+    check_ages(&rt, heap, 2, MINUS_3, both(25))
 }
 
 #[test]
 fn strict_three_meets_no_three(rt: HostRuntime) -> Result<(), Fail> {
     let heap = rt.alloc();
-    check_ages(&rt, heap, 2, MINUS_3, Some(25), Some(25))?;
-    check_ages(&rt, heap, 3, MINUS_3, None, None)?;
-    check_ages(&rt, heap, BELOW_3, MINUS_2, Some(24), None)?;
-    check_ages(&rt, heap, BELOW_3, MINUS_3, Some(24), Some(25))?;
+    check_ages(&rt, heap, 2, MINUS_3, both(25))?;
+    check_ages(&rt, heap, 3, MINUS_3, TAKEN)?;
+    check_ages(&rt, heap, BELOW_3, MINUS_2, PLAIN_24)?;
+    check_ages(
+        &rt,
+        heap,
+        BELOW_3,
+        MINUS_3,
+        Numbers {
+            plain: Some(24),
+            marked: Some(25),
+        },
+    )?;
     // no age is below zero, whatever the clock's row says
-    check_ages(&rt, heap, MINUS_1, NO_LIMIT, Some(25), Some(25))?;
-    check_ages(&rt, heap, MINUS_1, 5, Some(25), Some(25))
+    check_ages(&rt, heap, MINUS_1, NO_LIMIT, both(25))?;
+    check_ages(&rt, heap, MINUS_1, 5, both(25))
 }
 
 #[test]

@@ -12,6 +12,8 @@ mod firing_cases;
 #[cfg(test)]
 mod net_records;
 #[cfg(test)]
+mod seal_cases;
+#[cfg(test)]
 mod zone_cases;
 #[cfg(test)]
 mod zone_records;

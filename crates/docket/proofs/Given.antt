@@ -1,0 +1,34 @@
+-- Initial tokens that were gathered: what they are refused for. Assumes nothing.
+use Rattle.std.proofs.Common.{◌≡◌, ℕ, Bool, true, false, cond, ◌||◌, List, ◌∷◌, ◌++◌, length, leb, ltb, Ok, Err, Result, refl, inl, inr}
+use Rattle.std.proofs.lemmas.Bool.{false≢true}
+use Rattle.std.specs.List.{list_any}
+use Rattle.arrayvec.specs.ArrayVec.{ArrayVec}
+use Rattle.entries.specs.declared.fault.EntryRefusal.{EntryRefusal}
+use Rattle.entries.specs.declared.fault.EntryRefusal.TheVariants.{TooMany, NoSuchPlace}
+use Rattle.entries.specs.declared.token.InitialToken.{InitialToken}
+use Rattle.refusals.specs.declared.refusal.CallRefusal.TheVariants.{Entry}
+use Rattle.seals.specs.Calls.{initial_tokens}
+use Rattle.seals.specs.Tables.{Answer, Answers, Row, initial_rows, row, too_old}
+use Rattle.docket.specs.Gathered.{gathered}
+
+abbrev two_rows : (many outside : Bool) (rest : List Row) → List Row
+two_rows many outside rest = row (Entry TooMany) (many ≡ true) ∷ row (Entry NoSuchPlace) (outside ≡ true) ∷ rest
+
+-- a refusal answers, and tokens leave it to the rest of the rows
+abbrev Gives : (rows rest : List Row) (tokens : List InitialToken) → Result (ArrayVec InitialToken) EntryRefusal → Type 0
+Gives rows rest tokens (Err r) = Answers rows (Err (Entry r))
+Gives rows rest tokens (Ok given) = (given.items ≡ tokens) × ((answer : Answer) → Answers rest answer → Answers rows answer)
+
+no : false ≡ true → ⊥
+no h = false≢true h
+
+gives : (many outside : Bool) (rest : List Row) (tokens : List InitialToken) → Gives (two_rows many outside rest) rest tokens (cond many (Err TooMany) (cond outside (Err NoSuchPlace) (Ok (record { items = tokens }))))
+gives true outside rest tokens = inl (refl, refl)
+gives false true rest tokens = inr (no, inl (refl, refl))
+gives false false rest tokens = (refl, λ answer h. inr (no, inr (no, h)))
+
+abbrev pub Given : (net_places : ℕ) (places ages : List ℕ) (rest : List Row) → Result (ArrayVec InitialToken) EntryRefusal → Type 0
+Given net_places places ages rest result = Gives (initial_rows net_places places ages ++ rest) rest (initial_tokens places ages) result
+
+pub given : (net_places : ℕ) (places ages : List ℕ) (rest : List Row) → Given net_places places ages rest (gathered net_places places ages)
+given net_places places ages rest = gives (ltb 8 (length places) || list_any too_old ages) (list_any (leb net_places) places) rest (initial_tokens places ages)

@@ -1,0 +1,62 @@
+-- What it means that nothing stands against a page's vouching; and the same stands for zones with the same places and bounds.
+-- Assumes nothing.
+use Rattle.std.proofs.Common.{◌≡◌, ℕ, Bool, true, false, cond, List, is_err, Ok, Err, Result, sym, refl, ap, ◌∙◌}
+use Rattle.std.proofs.lemmas.Bool.{true≢false}
+use Rattle.books.specs.Objections.{objection_of}
+use Rattle.books.specs.declared.objections.Objection.{Objection}
+use Rattle.books.specs.declared.objections.Objection.TheVariants.{Partner, Place, Bound}
+use Rattle.bounds.specs.Kinds.{Kind}
+use Rattle.cells.specs.Objections.{bound_exceeds, partners_unsound, places_differ}
+use Rattle.cells.proofs.Objections.{none_lacks, vouches_from}
+use Rattle.dues.specs.Answered.{SameZone}
+use Rattle.dues.proofs.Same.{vouches_same}
+use Rattle.walks.specs.Walks.{Matrix}
+use Rattle.zones.specs.Vouching.{Vouches}
+use Rattle.zones.specs.Zones.{Zone}
+
+abbrev pub Tried : Type 0
+Tried = Result (Unit {0}) Objection
+
+abbrev tried : Bool → Bool → Bool → Tried
+tried a b c = cond a (Err Partner) (cond b (Err Place) (cond c (Err Bound) (Ok tt)))
+
+-- the first test that holds is the answer
+none_held : (a b c : Bool) → tried a b c ≡ Ok tt → (a ≡ false) × (b ≡ false) × (c ≡ false)
+none_held true b c e = absurd (true≢false (ap is_err e))
+none_held false true c e = absurd (true≢false (ap is_err e))
+none_held false false true e = absurd (true≢false (ap is_err e))
+none_held false false false e = (refl, refl, refl)
+
+-- the last test tells the same of both, where the others hold of neither
+last_alike : (a b c e : Bool) → (a ≡ false → b ≡ false → c ≡ false → e ≡ false) → (a ≡ false → b ≡ false → e ≡ false → c ≡ false) → tried a b c ≡ tried a b e
+last_alike true b c e there back = refl
+last_alike false true c e there back = refl
+last_alike false false false e there back = ap (λ t. tried false false t) (sym (there refl refl refl))
+last_alike false false true true there back = refl
+last_alike false false true false there back = absurd (true≢false (back refl refl refl))
+
+module _ {B : Type 0} (kind : Kind B) (page : Zone B) (pairing : List ℕ) where
+  pub unobjected : (x : Zone B) → objection_of kind page x pairing ≡ Ok tt → Vouches kind page x pairing
+  unobjected x e =
+      let none = none_held (partners_unsound page.places x.places pairing) (places_differ page.places x.places pairing) (bound_exceeds kind page.bound x.bound pairing) e in
+      vouches_from kind page x pairing none.0 none.1 none.2
+
+  module _ (places : List ℕ) (x y : Matrix B) where
+    abbrev one : Zone B
+    one = record { places = places; bound = x }
+
+    abbrev other : Zone B
+    other = record { places = places; bound = y }
+
+    same_tried : SameZone one other → SameZone other one → objection_of kind page one pairing ≡ objection_of kind page other pairing
+    same_tried there back =
+        last_alike (partners_unsound page.places places pairing) (places_differ page.places places pairing) (bound_exceeds kind page.bound x pairing) (bound_exceeds kind page.bound y pairing)
+        (λ a b c. (none_lacks kind page other pairing (vouches_same kind other one page pairing back (vouches_from kind page one pairing a b c))).2)
+        (λ a b c. (none_lacks kind page one pairing (vouches_same kind one other page pairing there (vouches_from kind page other pairing a b c))).2)
+
+  pub same_objection : (x y : Zone B) → SameZone x y → objection_of kind page x pairing ≡ objection_of kind page y pairing
+  same_objection x y same =
+      same_tried x.places x.bound y.bound
+      (record { places = refl; bounds = same.bounds })
+      (record { places = refl; bounds = λ j i p q. sym (same.bounds j i p q) })
+      ∙ ap (λ ps. objection_of kind page (record { places = ps; bound = y.bound }) pairing) (sym same.places)

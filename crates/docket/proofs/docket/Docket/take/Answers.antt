@@ -1,0 +1,16 @@
+use Rattle.std.proofs.Common.{rules}
+use Rattle.docket.specs.Dockets.{state_of, world_of}
+use Rattle.docket.proofs.Weighed.{call_refused, call_taken}
+use Rattle.docket.proofs.docket.Docket.take.Goals as goal
+
+pub returns-in_err-answer : goal.returns-in_err-answer
+returns-in_err-answer g c =
+    call_refused g.B.Bound.kind (g.N.NetStore.net c.args.store.now) (world_of c.args.self.now c.args.cells.now c.args.places.now) c.args.voucher.now c.in-Proving.item
+    c.args.scratch.now c.vouch-answer.new.scratch c.wipe.new.cells c.in-Proving.is (search rules) c.wipe.ensures
+    c.in_err-answer.field-0.0 c.vouch-answer.result c.from_residual.result c.in_err-answer.was (search rules) c.vouch-answer.ensures
+
+pub returns : goal.returns
+returns g c =
+    call_taken g.B.Bound.kind (g.N.NetStore.net c.args.store.now) (world_of c.args.self.now c.args.cells.now c.args.places.now) c.args.voucher.now c.in-Proving.item
+    c.args.scratch.now c.vouch-answer.new.scratch c.wipe.new.cells c.in-Proving.is (search rules) c.wipe.ensures
+    c.vouch-answer.result c.in_ok-answer.was c.vouch-answer.ensures (state_of c.advance.new.self) c.advance.ensures

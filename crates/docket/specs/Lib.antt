@@ -1,0 +1,3 @@
+pub mod Dockets
+pub mod Gathered
+pub mod Discharging

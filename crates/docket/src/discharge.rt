@@ -1,0 +1,182 @@
+// One voucher for the first item that is due.
+ghost use Rattle.books.specs.Objections.{objection_of};
+ghost use Rattle.cells.specs.Drafts.{draft_zone};
+ghost use Rattle.docket.specs.Discharging.{Advanced, Weighed, judged, voucher_read};
+ghost use Rattle.docket.specs.Dockets.{state_of, world_of};
+ghost use Rattle.seals.specs.Calls.{Discharges};
+ghost use Rattle.seals.specs.Promise.{Promise};
+ghost use Rattle.seals.specs.Tables.{pairing_of, partners_used};
+ghost use Rattle.seals.specs.Worlds.{in_list, page_cells, page_of, page_places};
+ghost use Rattle.std.specs.Prelude.{◌≡◌, slice_index};
+
+use crate::docket::Docket;
+use crate::memory::{is_whole, page};
+use books::{Book, Claim, Item, Objection, Page, wipe};
+use bounds::Bound;
+use dues::Due;
+use entries::fault::EntryRefusal;
+use entries::record::Record;
+use entries::voucher::Voucher;
+use items::{item_zone, next_due};
+use nets::NetStore;
+use pages::bytes::byte;
+use pages::tokens::Tokens;
+use refusals::CallRefusal;
+use seals::{Stage, seals_keep_promises};
+use zones::MOST_TOKENS;
+
+impl Docket {
+    // How many tokens a page has; one that is not written has none.
+    fn tokens_of(&self, number: u8) -> u8
+        ensures { result ≡ slice_index (state_of self.now).counts number }
+    {
+        byte(&self.counts, usize::from(number))
+    }
+
+    fn page<'a, 'b, B: Bound>(&self, book: &Book<'a, 'b, B>, number: u8) -> Page<'a, 'b, B>
+        ensures cells { result.cells.now ≡ page_cells (world_of self.now book.now.cells.now book.now.places.now) number }
+        ensures places { result.places.now ≡ page_places (world_of self.now book.now.cells.now book.now.places.now) number }
+    {
+        page(book.cells, book.places, number, self.tokens_of(number))
+    }
+
+    fn is_listed(&self, zone: u8) -> bool
+        ensures { result ≡ in_list (state_of self.now) zone }
+    {
+        (1..=self.listed()).contains(&zone)
+    }
+
+    // How many partners a voucher uses: all, where its zone is not listed.
+    fn partners_used(&self, voucher: &Voucher) -> u8
+        ensures { result ≡ partners_used (state_of self.now) voucher.now }
+    {
+        if self.is_listed(voucher.zone) {
+            self.tokens_of(voucher.zone)
+        } else {
+            MOST_TOKENS
+        }
+    }
+
+    fn read(&self, bytes: &[u8]) -> Result<Voucher, EntryRefusal>
+        ensures { result ≡ voucher_read (state_of self.now) bytes.now }
+    {
+        let voucher = Voucher::read(bytes)?;
+        if voucher.unused_set(self.partners_used(&voucher)) {
+            return Err(EntryRefusal::NotZero);
+        }
+        Ok(voucher)
+    }
+
+    // What stands against the zone that the voucher names.
+    fn objection<B: Bound>(
+        &self,
+        book: &Book<'_, '_, B>,
+        asked: Item<'_, '_, B>,
+        voucher: &Voucher,
+    ) -> Result<(), Objection>
+        ensures { result ≡ objection_of B.Bound.kind (page_of B.Bound.kind (world_of self.now book.now.cells.now book.now.places.now) voucher.now.zone) (draft_zone B.Bound.kind asked.entry.places.now asked.entry.cells.now) (pairing_of (state_of self.now) voucher.now) }
+    {
+        let tokens = usize::from(self.tokens_of(voucher.zone));
+        let claim = Claim {
+            page: self.page(book, voucher.zone),
+            item: asked,
+            pairing: voucher.partners.get(..tokens).unwrap_or(&voucher.partners),
+        };
+        claim.check()
+    }
+
+    // The draft has the zone that the item asks for, of these tokens; it is void where there are none.
+    fn judge<B: Bound>(
+        &self,
+        book: &Book<'_, '_, B>,
+        draft: &[B],
+        asked: Option<Tokens>,
+        voucher: &Voucher,
+    ) -> Result<(), CallRefusal>
+        ensures { result ≡ judged B.Bound.kind (world_of self.now book.now.cells.now book.now.places.now) voucher.now draft.now asked }
+    {
+        match (voucher.void, asked) {
+            (true, None) => Ok(()),
+            (true, Some(_)) => Err(CallRefusal::NotVoid),
+            (false, None) => Err(CallRefusal::VoidItem),
+            (false, Some(_)) if !self.is_listed(voucher.zone) => Err(CallRefusal::NoSuchZone),
+            (false, Some(tokens)) => {
+                let asked = Item {
+                    cells: draft,
+                    places: &tokens,
+                };
+                Ok(self.objection(book, asked, voucher)?)
+            }
+        }
+    }
+
+    // Whether the voucher answers the item. The scratch page is left with what was worked out.
+    fn vouch<B: Bound, N: NetStore<B>>(
+        &self,
+        store: &N,
+        book: &Book<'_, '_, B>,
+        scratch: &mut [B],
+        bytes: &[u8],
+        item: Due,
+    ) -> Result<(), CallRefusal>
+        ensures { Weighed B.Bound.kind (N.NetStore.net store.now) (world_of self.now book.now.cells.now book.now.places.now) bytes.now item scratch.old scratch.new result }
+    {
+        let voucher = self.read(bytes)?;
+        let asked = item_zone(store, &self.page(book, item.zone), item, scratch);
+        self.judge(book, scratch, asked, &voucher)
+    }
+
+    fn advance<B: Bound, N: NetStore<B>>(&mut self, store: &N, book: &Book<'_, '_, B>, item: Due)
+        ensures { Advanced B.Bound.kind (N.NetStore.net store.now) (world_of self.old book.now.cells.now book.now.places.now) item (state_of self.new) }
+    {
+        let places = self.page(book, item.zone).places;
+        self.stage = match next_due(store, self.listed(), places, item) {
+            Some(next) => Stage::Proving(next),
+            None => Stage::Sealed,
+        };
+        self.taken = self.taken.saturating_add(1);
+    }
+
+    // Tests the voucher and moves on.
+    fn take<B: Bound, N: NetStore<B>>(
+        &mut self,
+        store: &N,
+        cells: &[B],
+        places: &[u8],
+        scratch: &mut [B],
+        voucher: &[u8],
+    ) -> Result<(), CallRefusal>
+        ensures { Discharges B.Bound.kind (N.NetStore.net store.now) voucher.now scratch.old scratch.new (world_of self.old cells.now places.now) (world_of self.new cells.now places.now) result }
+    {
+        let Stage::Proving(item) = self.stage else {
+            return Err(CallRefusal::WrongStage);
+        };
+        if !is_whole(cells, places, scratch) {
+            return Err(CallRefusal::WrongMemory);
+        }
+        let book = Book { cells, places };
+        let answer = self.vouch(store, &book, scratch, voucher, item);
+        wipe(scratch);
+        answer?;
+        self.advance(store, &book, item);
+        Ok(())
+    }
+
+    // Takes a voucher for the first item that is due; the last one seals. What it ensures besides is what is promised of every list of
+    // calls from a blank docket over a lawful store.
+    pub fn discharge<B: Bound, N: NetStore<B>>(
+        &mut self,
+        store: &N,
+        cells: &[B],
+        places: &[u8],
+        scratch: &mut [B],
+        voucher: &[u8],
+    ) -> Result<(), CallRefusal>
+        ensures step { Discharges B.Bound.kind (N.NetStore.net store.now) voucher.now scratch.old scratch.new (world_of self.old cells.now places.now) (world_of self.new cells.now places.now) result }
+        ensures promise { Promise B.Bound.kind (N.NetStore.net store.now) }
+    {
+        store.keeps_limits();
+        seals_keep_promises::<B>();
+        self.take(store, cells, places, scratch, voucher)
+    }
+}

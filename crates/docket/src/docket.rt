@@ -1,0 +1,77 @@
+// What a docket keeps between its calls: how far it has come, the initial tokens, and how many tokens each page has.
+ghost use Rattle.docket.specs.Dockets.{state_of};
+ghost use Rattle.seals.specs.Calls.{Closes, next_due_of};
+ghost use Rattle.seals.specs.Worlds.{blank, listed_count};
+ghost use Rattle.std.specs.Prelude.{◌≡◌};
+
+use arrayvec::ArrayVec;
+use dues::Due;
+use markings::InitialTokens;
+use refusals::CallRefusal;
+use seals::Stage;
+
+// The first item that is due: the target itself.
+const TARGET: Due = Due {
+    zone: 0,
+    transition: 0,
+    matching: 0,
+};
+
+#[derive(Drop)]
+pub struct Docket {
+    pub(crate) stage: Stage,
+    pub(crate) initial: InitialTokens,
+    // how many tokens each written page has, the target's first
+    pub(crate) counts: ArrayVec<u8, 64>,
+    // vouchers taken
+    pub(crate) taken: u64,
+}
+
+impl Docket {
+    pub fn new() -> Docket
+        ensures { state_of result ≡ blank }
+    {
+        Docket {
+            stage: Stage::Blank,
+            initial: InitialTokens::new(),
+            counts: ArrayVec::new(),
+            taken: 0,
+        }
+    }
+
+    // No zone may be posted any more: the items are due, the target's first.
+    pub fn close(&mut self) -> Result<(), CallRefusal>
+        ensures { Closes (state_of self.old) (state_of self.new) result }
+    {
+        if self.stage != Stage::Listing {
+            return Err(CallRefusal::WrongStage);
+        }
+        self.stage = Stage::Proving(TARGET);
+        self.taken = 0;
+        Ok(())
+    }
+
+    // The first item that is due; none outside proving.
+    pub fn next_due(&self) -> Option<Due>
+        ensures { result ≡ next_due_of (state_of self.now).stage }
+    {
+        match self.stage {
+            Stage::Proving(item) => Some(item),
+            Stage::Blank | Stage::Listing | Stage::Sealed => None,
+        }
+    }
+
+    // How many zones are listed.
+    pub fn listed(&self) -> u8
+        ensures { result ≡ listed_count (state_of self.now) }
+    {
+        (self.counts.len() as u8).saturating_sub(1)
+    }
+
+    // How many vouchers were taken.
+    pub fn taken(&self) -> u64
+        ensures { result ≡ (state_of self.now).taken }
+    {
+        self.taken
+    }
+}

@@ -1,0 +1,103 @@
+// Memory that a call is lent: whether it is whole, and the pages of the book.
+ghost use Rattle.cells.specs.Cells.{in_draft};
+ghost use Rattle.cells.specs.Drafts.{draft_zone};
+ghost use Rattle.seals.specs.Calls.{cell_of, cells_of, places_of, with_page};
+ghost use Rattle.std.specs.List.{range_with_len};
+ghost use Rattle.std.specs.Prelude.{◌≡◌, ◌==◌, ◌&&◌, ◌+◌, ◌*◌, ◌/◌, ◌%◌, ◌<◌, ◌≤◌, ◌++◌, ℕ, length, take, drop, map};
+
+use books::Page;
+use bounds::Bound;
+use pages::bytes::byte;
+use pages::draft::bound_at;
+
+const BOOK_CELLS: usize = 5184;
+
+const BOOK_PLACES: usize = 512;
+
+const SCRATCH_CELLS: usize = 169;
+
+// Whether the book and the scratch page have the stated lengths.
+pub(crate) fn is_whole<B: Bound>(cells: &[B], places: &[u8], scratch: &[B]) -> bool
+    ensures { result ≡ (length cells.now == 5184 && (length places.now == 512 && length scratch.now == 169)) }
+{
+    cells.len() == BOOK_CELLS && places.len() == BOOK_PLACES && scratch.len() == SCRATCH_CELLS
+}
+
+// So many items from a start on; what lies past the end is none.
+fn part<X>(items: &[X], start: usize, size: usize) -> &[X]
+    ensures { result.now ≡ take size (drop start items.now) }
+{
+    let later = items.get(start..).unwrap_or(&[]);
+    later.get(..size).unwrap_or(later)
+}
+
+// The page with this number, of so many tokens.
+pub(crate) fn page<'a, 'b, B: Bound>(
+    cells: &'a [B],
+    places: &'b [u8],
+    number: u8,
+    tokens: u8,
+) -> Page<'a, 'b, B>
+    ensures cells { result.cells.now ≡ take 81 (drop (81 * number) cells.now) }
+    ensures places { result.places.now ≡ take tokens (drop (8 * number) places.now) }
+{
+    Page {
+        cells: part(cells, 81 * usize::from(number), 81),
+        places: part(places, 8 * usize::from(number), usize::from(tokens)),
+    }
+}
+
+// Writes so many items from a start on: each is what the closure answers of its number.
+fn write_part<X: Copy, F: Fn(u8) -> X>(items: &mut [X], start: usize, size: u8, item: F)
+    requires callable { F.IsAlwaysCallable item }
+    requires room { start + size ≤ length items.old }
+    ensures { (f : ℕ → X) → ((at : ℕ) (x : X) → at < size → F.post item at x → x ≡ f at) → items.new ≡ take start items.old ++ (map f (range_with_len 0 size) ++ drop (start + size) items.old) }
+{
+    for at in 0..size {
+        items[start + usize::from(at)] = item(at);
+    }
+}
+
+// The cell of a page: the draft's, or for absent tokens zero from a point to itself, and else no limit.
+fn page_cell<B: Bound>(draft: &[B], tokens: u8, at: u8) -> B
+    ensures { result ≡ cell_of B.Bound.kind tokens (in_draft B.Bound.kind draft.now) (at / 9) (at % 9) }
+{
+    let (j, i) = (at / 9, at % 9);
+    if j <= tokens && i <= tokens {
+        bound_at(draft, j, i)
+    } else if j == i {
+        B::zero()
+    } else {
+        B::no_limit()
+    }
+}
+
+// Writes the zone of a draft into the page with this number.
+pub(crate) fn write_page<B: Bound>(
+    cells: &mut [B],
+    places: &mut [u8],
+    number: u8,
+    draft: &[B],
+    tokens: &[u8],
+)
+    requires full { length cells.old ≡ 5184 }
+    requires whole { length places.old ≡ 512 }
+    requires within { number < 64 }
+    requires few { length tokens.now ≤ 8 }
+    ensures cells { cells.new ≡ with_page 81 number (cells_of B.Bound.kind (draft_zone B.Bound.kind tokens.now draft.now)) cells.old }
+    ensures places { places.new ≡ with_page 8 number (places_of (draft_zone B.Bound.kind tokens.now draft.now)) places.old }
+{
+    let count = tokens.len() as u8;
+    write_part(
+        cells,
+        81 * usize::from(number),
+        81,
+        |at| page_cell(draft, count, at),
+    );
+    write_part(
+        places,
+        8 * usize::from(number),
+        8,
+        |at| byte(tokens, usize::from(at)),
+    );
+}

@@ -1,0 +1,129 @@
+// Opening: the initial marking, and the target on page 0.
+ghost use Rattle.docket.specs.Dockets.{Tried, world_of};
+ghost use Rattle.docket.specs.Gathered.{gathered};
+ghost use Rattle.entries.specs.ZoneRecords.{zone_of};
+ghost use Rattle.seals.specs.Calls.{Opened, Opens, initial_tokens};
+ghost use Rattle.seals.specs.Tables.{initial_rows, record_rows, too_old};
+ghost use Rattle.std.specs.List.{list_any};
+ghost use Rattle.std.specs.Prelude.{◌≡◌, ◌≤◌, ◌++◌, length, nat_le};
+
+use crate::docket::Docket;
+use crate::memory::{is_whole, write_page};
+use books::wipe;
+use bounds::Bound;
+use entries::fault::EntryRefusal;
+use entries::token::InitialToken;
+use markings::InitialTokens;
+use nets::NetStore;
+use reading::read_zone;
+use refusals::CallRefusal;
+use seals::Stage;
+
+const MOST_INITIAL: usize = 8;
+
+// The largest age of an initial token, of 15 bits.
+const LARGEST_AGE: u16 = 32767;
+
+// A token for each place, of the age that stands with it. The ages by number: a loop over both by `zip` did not prove.
+fn paired(places: &[u8], ages: &[u16]) -> InitialTokens
+    requires few { length places.now ≤ 8 }
+    requires even { length ages.now ≡ length places.now }
+    ensures { result.items ≡ initial_tokens places.now ages.now }
+{
+    let mut tokens = InitialTokens::new();
+    for place in places {
+        let age = ages.get(tokens.len()).copied().unwrap_or(0);
+        tokens.push(InitialToken { place: *place, age });
+    }
+    tokens
+}
+
+fn some_too_old(ages: &[u16]) -> bool
+    ensures { result ≡ list_any too_old ages.now }
+{
+    ages.iter().any(|age| LARGEST_AGE < *age)
+}
+
+fn some_outside(net_places: u8, places: &[u8]) -> bool
+    ensures { result ≡ list_any (nat_le net_places) places.now }
+{
+    places.iter().any(|place| net_places <= *place)
+}
+
+// The initial tokens of a net of so many places, or what is wrong with them, lowest number first.
+fn gather(net_places: u8, places: &[u8], ages: &[u16]) -> Result<InitialTokens, EntryRefusal>
+    requires { length ages.now ≡ length places.now }
+    ensures { result ≡ gathered net_places places.now ages.now }
+{
+    if MOST_INITIAL < places.len() || some_too_old(ages) {
+        return Err(EntryRefusal::TooMany);
+    }
+    if some_outside(net_places, places) {
+        return Err(EntryRefusal::NoSuchPlace);
+    }
+    Ok(paired(places, ages))
+}
+
+impl Docket {
+    // The initial tokens, and the target's zone on page 0.
+    fn begin<B: Bound>(
+        &mut self,
+        net_places: u8,
+        cells: &mut [B],
+        places: &mut [u8],
+        draft: &mut [B],
+        initial_places: &[u8],
+        initial_ages: &[u16],
+        target: &[u8],
+    ) -> Result<(), CallRefusal>
+        requires full { length cells.old ≡ 5184 }
+        requires whole { length places.old ≡ 512 }
+        requires drafted { length draft.old ≡ 169 }
+        requires even { length initial_ages.now ≡ length initial_places.now }
+        ensures kept { length draft.new ≡ length draft.old }
+        ensures tried { Tried (initial_rows net_places initial_places.now initial_ages.now ++ record_rows B.Bound.kind net_places target.now) (Opened B.Bound.kind initial_places.now initial_ages.now (zone_of B.Bound.kind target.now) (world_of self.old cells.old places.old) (world_of self.new cells.new places.new)) (world_of self.old cells.old places.old) (world_of self.new cells.new places.new) result }
+    {
+        let initial = gather(net_places, initial_places, initial_ages)?;
+        let tokens = read_zone(target, net_places, draft)?;
+        write_page(cells, places, 0, draft, &tokens);
+        self.stage = Stage::Listing;
+        self.initial = initial;
+        self.counts.clear();
+        self.counts.push(tokens.len() as u8);
+        self.taken = 0;
+        Ok(())
+    }
+
+    // Opens a blank docket: an initial token for each place with its age, and the record of the target.
+    pub fn open<B: Bound, N: NetStore<B>>(
+        &mut self,
+        store: &N,
+        cells: &mut [B],
+        places: &mut [u8],
+        scratch: &mut [B],
+        initial_places: &[u8],
+        initial_ages: &[u16],
+        target: &[u8],
+    ) -> Result<(), CallRefusal>
+        ensures { Opens B.Bound.kind (N.NetStore.net store.now) initial_places.now initial_ages.now target.now scratch.old scratch.new (world_of self.old cells.old places.old) (world_of self.new cells.new places.new) result }
+    {
+        if self.stage != Stage::Blank {
+            return Err(CallRefusal::WrongStage);
+        }
+        if !is_whole(cells, places, scratch) || initial_places.len() != initial_ages.len() {
+            return Err(CallRefusal::WrongMemory);
+        }
+        let net_places = store.places();
+        let result = self.begin(
+            net_places,
+            cells,
+            places,
+            scratch,
+            initial_places,
+            initial_ages,
+            target,
+        );
+        wipe(scratch);
+        result
+    }
+}

@@ -1,0 +1,74 @@
+// Posting a listed zone.
+ghost use Rattle.docket.specs.Dockets.{Tried, state_of, world_of};
+ghost use Rattle.entries.specs.ZoneRecords.{zone_of};
+ghost use Rattle.markings.specs.Initial.{marking_of};
+ghost use Rattle.refusals.specs.declared.refusal.CallRefusal.TheVariants.{Covered};
+ghost use Rattle.seals.specs.Calls.{Posted, Posts};
+ghost use Rattle.seals.specs.Tables.{record_rows, row};
+ghost use Rattle.seals.specs.declared.stage.Stage.TheVariants.{Listing};
+ghost use Rattle.std.specs.Prelude.{◌≡◌, ◌<◌, [], ◌∷◌, ◌++◌, length};
+ghost use Rattle.zones.specs.Zones.{Satisfies};
+
+use crate::docket::Docket;
+use crate::memory::{is_whole, write_page};
+use books::wipe;
+use bounds::Bound;
+use markings::satisfies;
+use nets::NetStore;
+use reading::read_zone;
+use refusals::CallRefusal;
+use seals::Stage;
+
+impl Docket {
+    // The record's zone on the next page, where it is well formed and the initial marking does not satisfy it.
+    fn list<B: Bound>(
+        &mut self,
+        net_places: u8,
+        cells: &mut [B],
+        places: &mut [u8],
+        draft: &mut [B],
+        zone: &[u8],
+    ) -> Result<(), CallRefusal>
+        requires listing { (state_of self.old).stage ≡ Listing }
+        requires room { length (state_of self.old).counts < 64 }
+        requires full { length cells.old ≡ 5184 }
+        requires whole { length places.old ≡ 512 }
+        requires drafted { length draft.old ≡ 169 }
+        ensures kept { length draft.new ≡ length draft.old }
+        ensures tried { Tried (record_rows B.Bound.kind net_places zone.now ++ row Covered (Satisfies B.Bound.kind 1 (zone_of B.Bound.kind zone.now) (marking_of (state_of self.old).initial)) ∷ []) (Posted B.Bound.kind (zone_of B.Bound.kind zone.now) (world_of self.old cells.old places.old) (world_of self.new cells.new places.new)) (world_of self.old cells.old places.old) (world_of self.new cells.new places.new) result }
+    {
+        let tokens = read_zone(zone, net_places, draft)?;
+        if satisfies(&self.initial, draft, &tokens) {
+            return Err(CallRefusal::Covered);
+        }
+        let number = self.counts.len() as u8;
+        write_page(cells, places, number, draft, &tokens);
+        self.counts.push(tokens.len() as u8);
+        Ok(())
+    }
+
+    // Lists the record's zone.
+    pub fn post<B: Bound, N: NetStore<B>>(
+        &mut self,
+        store: &N,
+        cells: &mut [B],
+        places: &mut [u8],
+        scratch: &mut [B],
+        zone: &[u8],
+    ) -> Result<(), CallRefusal>
+        ensures { Posts B.Bound.kind (N.NetStore.net store.now) zone.now scratch.old scratch.new (world_of self.old cells.old places.old) (world_of self.new cells.new places.new) result }
+    {
+        if self.stage != Stage::Listing {
+            return Err(CallRefusal::WrongStage);
+        }
+        if !is_whole(cells, places, scratch) {
+            return Err(CallRefusal::WrongMemory);
+        }
+        if self.counts.is_full() {
+            return Err(CallRefusal::FullList);
+        }
+        let result = self.list(store.places(), cells, places, scratch, zone);
+        wipe(scratch);
+        result
+    }
+}

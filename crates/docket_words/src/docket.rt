@@ -35,7 +35,7 @@ impl<'a, 'c, B: BoundWords> Teller<'a, 'c, B> {
     }
 }
 
-// Passes the net records.
+// Passes the net records one by one, as a reader begins at record 0.
 fn pass_net(reader: &mut Reader<'_>, transitions: u8)
     requires { 4 + 41 * transitions ≤ length reader.old.rest.now }
     ensures rest { reader.new.rest.now ≡ drop (4 + 41 * transitions) reader.old.rest.now }

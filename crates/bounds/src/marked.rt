@@ -23,6 +23,11 @@ pub struct MarkedBound {
 }
 
 impl MarkedNumber {
+    pub const ZERO: MarkedNumber = MarkedNumber {
+        number: 0,
+        strict: false,
+    };
+
     pub fn allows(self, difference: i64) -> bool
         ensures { result ≡ number_allows 1 self.number self.strict difference }
     {
@@ -46,10 +51,7 @@ impl Bound for MarkedBound {
     ghost kind = { marked_kind };
 
     fn zero() -> MarkedBound {
-        MarkedBound::limited(MarkedNumber {
-            number: 0,
-            strict: false,
-        })
+        MarkedBound::limited(MarkedNumber::ZERO)
     }
 
     fn no_limit() -> MarkedBound {

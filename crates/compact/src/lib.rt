@@ -45,10 +45,7 @@ impl Bound for CompactBound {
     ghost kind = { compact_kind };
 
     fn zero() -> CompactBound {
-        CompactBound::of_number(MarkedNumber {
-            number: 0,
-            strict: false,
-        })
+        CompactBound::of_number(MarkedNumber::ZERO)
     }
 
     fn no_limit() -> CompactBound {

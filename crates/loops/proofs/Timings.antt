@@ -8,7 +8,7 @@ use Rattle.std.proofs.lemmas.Bool.{le-leb, leb-true, cond-true, true≢false, fa
 use Rattle.std.specs.Str.{bytes_eq}
 use Rattle.bounds.specs.Codings.{either_marked}
 use Rattle.bounds.specs.Limits.{scaled_sum}
-use Rattle.std.proofs.Math.Bool.{or_assoc}
+use Rattle.std.proofs.Math.Bool.{or-false, or_assoc}
 use Rattle.bounds.specs.Kinds.{Kind, Named, largest_number, largest_size, number_allows, place}
 use Rattle.bounds.specs.declared.made.MakeError.TheVariants.{OutsideLimits, MarkNotTaken}
 use Rattle.loops.specs.declared.line.LineFault.{LineFault}
@@ -147,11 +147,7 @@ fits_first k w c t false false lt few h =
 
 module _ {B : Type 0} (kind : Kind B) where
   summed : {bs : List B} {t : ℤ} {u : Bool} {w : ℕ} (c : ℤ) (s : Bool) → Numbers kind bs t u w → nat_abs c + largest_number * length bs ≤ largest_size → (s ≡ true → kind.marks ≡ true) → total_after kind (kind.number c s) bs ≡ kind.number (c +ℤ t) (s || u)
-  summed c s none room takes = ap (λ z. kind.number z s) (sym (+ℤ_idr c)) ∙ ap (kind.number (c +ℤ pos 0)) (sym (or_false s))
-    where
-      or_false : (t : Bool) → (t || false) ≡ t
-      or_false true = refl
-      or_false false = refl
+  summed c s none room takes = ap (λ z. kind.number z s) (sym (+ℤ_idr c)) ∙ ap (kind.number (c +ℤ pos 0)) (sym (or-false s))
   summed c s (more {b} {bs} {t} {u} d r small marked is rest) room takes =
       let near : nat_abs (c +ℤ d) ≤ nat_abs c + nat_abs d = omega (arith, ints) in
       let one : kind.sum (kind.number c s) b ≡ kind.number (c +ℤ d) (s || r) =

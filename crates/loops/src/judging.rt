@@ -5,13 +5,10 @@ ghost use Rattle.loops.specs.Readings.{line_bound};
 ghost use Rattle.loops.specs.VerdictTexts.{bad_line_text, verdict_text};
 ghost use Rattle.std.specs.Option.{option_map};
 
-use crate::line::{LineFault, read_bound};
+use crate::line::{LineFault, MOST_LINES, read_bound};
 use crate::text::split_line;
 use bounds::Bound;
 use std::fmt;
-
-// So few that the sum of their bounds stays within 2^40, where sums are exact.
-const MOST_LINES: u32 = 1 << 22;
 
 // The sum of a loop's bounds, and whether any timing meets them.
 #[derive(Clone, Copy, PartialEq, Eq, Debug)]

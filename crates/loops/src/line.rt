@@ -5,8 +5,11 @@ ghost use Rattle.loops.specs.Readings.{line_bound, number_bound};
 ghost use Rattle.loops.specs.declared.line.LineFault.TheVariants.{Unmade};
 
 use crate::text::integer;
-use bounds::{Bound, MakeError};
+use bounds::{Bound, MakeError, NO_LIMIT_TEXT};
 use std::fmt;
+
+// So few that the sum of their bounds stays within 2^40, where sums are exact.
+pub(crate) const MOST_LINES: u32 = 1 << 22;
 
 #[derive(Clone, Copy, PartialEq, Eq, Debug)]
 pub enum LineFault {
@@ -33,7 +36,7 @@ fn number_bound<B: Bound>(text: &[u8], strict: bool) -> Result<B, LineFault>
 pub fn read_bound<B: Bound>(line: &[u8]) -> Result<B, LineFault>
     ensures { result ≡ line_bound B.Bound.kind line.now }
 {
-    if line == b"no limit".as_slice() {
+    if line == NO_LIMIT_TEXT.as_bytes() {
         return Ok(B::no_limit());
     }
     match line.strip_prefix(b"<") {
@@ -47,12 +50,11 @@ impl fmt::Display for LineFault {
 
     fn fmt<W: fmt::Write>(&self, f: &mut fmt::Formatter<W>) -> fmt::Result {
         match self {
-            LineFault::NotABound => write!(
-                f,
-                "not a bound (write a number as 3, a strict one as <3, or no limit)"
-            ),
+            LineFault::NotABound => {
+                f.write_str("not a bound (write a number as 3, a strict one as <3, or no limit)")
+            }
             LineFault::Unmade(e) => write!(f, "{e}"),
-            LineFault::TooManyLines => write!(f, "a loop has at most 4194304 lines"),
+            LineFault::TooManyLines => write!(f, "a loop has at most {MOST_LINES} lines"),
         }
     }
 }

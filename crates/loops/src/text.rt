@@ -3,8 +3,10 @@ ghost use Rattle.loops.specs.Lines.{first_line, after_line, natural, integer, cl
 ghost use Rattle.std.specs.Prelude.{◌≡◌, ◌≤◌, IfSome};
 ghost use Rattle.std.specs.Option.{option_map};
 
+use bounds::LARGEST_NUMBER;
+
 // One past the largest number of a bound; every larger number is read as this one.
-const PAST: u32 = 262_144;
+const PAST: u32 = LARGEST_NUMBER as u32 + 1;
 
 // The first line without its line feed, and what follows it.
 pub fn split_line(text: &[u8]) -> (&[u8], &[u8])

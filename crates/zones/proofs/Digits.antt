@@ -2,26 +2,10 @@
 use Rattle.std.proofs.Common.{◌≡◌, ℕ, zero, suc, ◌+◌, ◌-◌, ◌*◌, ◌/◌, ◌^◌, ◌<◌, ◌≤◌, min, Bool, true, false, not, ◌&&◌, ◌||◌, eqb, ◌⊎◌, List, [], ◌∷◌, ◌++◌, map, length, get_or, take, drop, sym, refl, ap, ◌∙◌, subst, ap₂, inl, inr, arith}
 use Rattle.std.proofs.lemmas.Bool.{eq-eqb, ne_eqb, false≢true, and_parts, and_from, and_left, and_right, cases_lt, cases_order}
 use Rattle.std.proofs.lemmas.Bool.Decides.{nat_tests}
+use Rattle.std.proofs.Math.Bool.{and-false, and-true, or-false, or-true}
 use Rattle.nets.specs.Nets.{Arc}
 use Rattle.zones.specs.Predecessors.{among, stands, matches, fields, all_zero, digits_of, is_matching}
 use Rattle.zones.specs.Digits.{fits, all_fit, Fitting, raised}
-
--- ---- tests
-and_false : (x : Bool) → (x && false) ≡ false
-and_false true = refl
-and_false false = refl
-
-and_true : (x : Bool) → (x && true) ≡ x
-and_true true = refl
-and_true false = refl
-
-or_false : (x : Bool) → (x || false) ≡ x
-or_false true = refl
-or_false false = refl
-
-or_true : (x : Bool) → (x || true) ≡ true
-or_true true = refl
-or_true false = refl
 
 -- ---- a digit is not among those before it, or not among those after it
 -- no digit but 0 is among those before
@@ -29,27 +13,27 @@ abbrev apart : List ℕ → List ℕ → Bool
 apart before [] = true
 apart before (d ∷ ds) = (eqb d 0 || not (among d before)) && apart before ds
 
+pub swapped : (p q r : Bool) → (p || (q || r)) ≡ (q || (p || r))
+swapped true true r = refl
+swapped true false r = refl
+swapped false true r = refl
+swapped false false r = refl
+
 among_more : (x : ℕ) (before : List ℕ) (d : ℕ) → among x (before ++ (d ∷ [])) ≡ (eqb x d || among x before)
 among_more x [] d = refl
 among_more x (b ∷ before) d = ap (λ t. eqb x b || t) (among_more x before d) ∙ swapped (eqb x b) (eqb x d) (among x before)
-  where
-    swapped : (p q r : Bool) → (p || (q || r)) ≡ (q || (p || r))
-    swapped true true r = refl
-    swapped true false r = refl
-    swapped false true r = refl
-    swapped false false r = refl
 
 apart_bools : (x d : ℕ) (r a p : Bool) → ((eqb x 0 || not (eqb x d || a)) && ((eqb d 0 || not r) && p)) ≡ ((eqb d 0 || not (eqb d x || r)) && ((eqb x 0 || not a) && p))
 apart_bools x d r a p = grind (arith, nat_tests)
 
 apart_more : (before : List ℕ) (d : ℕ) (ds : List ℕ) → apart (before ++ (d ∷ [])) ds ≡ ((eqb d 0 || not (among d ds)) && apart before ds)
-apart_more before d [] = sym (and_true _ ∙ or_true (eqb d 0))
+apart_more before d [] = sym (and-true _ ∙ or-true (eqb d 0))
 apart_more before d (x ∷ ds) =
     ap₂ (λ s t. (eqb x 0 || not s) && t) (among_more x before d) (apart_more before d ds) ∙ apart_bools x d (among d ds) (among x before) (apart before ds)
 
 apart_none : (ds : List ℕ) → apart [] ds ≡ true
 apart_none [] = refl
-apart_none (d ∷ ds) = ap₂ ◌&&◌ (or_true (eqb d 0)) (apart_none ds)
+apart_none (d ∷ ds) = ap₂ ◌&&◌ (or-true (eqb d 0)) (apart_none ds)
 
 -- the digits one by one, along the arcs
 abbrev walk : List ℕ → List ℕ → List ℕ → List ℕ → Bool
@@ -60,17 +44,17 @@ walk places before (a ∷ arcs) (d ∷ ds) = (eqb d 0 || (stands places d a && n
 
 walk_zero : (places before ds : List ℕ) → walk places before [] ds ≡ all_zero ds
 walk_zero places before [] = refl
-walk_zero places before (d ∷ ds) = ap₂ ◌&&◌ (or_false (eqb d 0)) (walk_zero places (before ++ (d ∷ [])) ds)
+walk_zero places before (d ∷ ds) = ap₂ ◌&&◌ (or-false (eqb d 0)) (walk_zero places (before ++ (d ∷ [])) ds)
 
 walk_bools : (e s a m z p r : Bool) → ((e || (s && not a)) && ((m && z) && ((e || not r) && p))) ≡ ((((e || (s && not r)) && m) && z) && ((e || not a) && p))
 walk_bools true s a m z p r = refl
 walk_bools false false a m z p r = refl
-walk_bools false true true m z p r = sym (and_false _)
-walk_bools false true false m z p true = and_false _
+walk_bools false true true m z p r = sym (and-false _)
+walk_bools false true false m z p true = and-false _
 walk_bools false true false m z p false = refl
 
 walk-matches : {B : Type 0} (places before : List ℕ) (arcs : List (Arc B)) (ds : List ℕ) → walk places before (map (λ a. a.place) arcs) ds ≡ ((matches places arcs (take (length arcs) ds) && all_zero (drop (length arcs) ds)) && apart before (take (length arcs) ds))
-walk-matches places before [] ds = walk_zero places before ds ∙ sym (and_true _)
+walk-matches places before [] ds = walk_zero places before ds ∙ sym (and-true _)
 walk-matches places before (a ∷ arcs) [] = refl
 walk-matches places before (a ∷ arcs) (d ∷ ds) =
     ap (λ t. (eqb d 0 || (stands places d a.place && not (among d before))) && t)
@@ -95,7 +79,7 @@ all_fit_matching places arcs n few =
     walk_fits places (map (λ a. a.place) arcs) _ _ _ _ (omega (arith, length_places arcs))
     ∙ walk-matches places [] arcs (fields n)
     ∙ ap (λ t. is_matching places arcs n && t) (apart_none (digits_of arcs n))
-    ∙ and_true (is_matching places arcs n)
+    ∙ and-true (is_matching places arcs n)
 
 -- ---- the next number whose digits fit
 -- a number without its digits from a position on
@@ -247,7 +231,7 @@ small_at places (a ∷ arcs) (d ∷ ds) few m zero = matching_small places a d (
 small_at places (a ∷ arcs) (d ∷ ds) few m (suc k) =
     small_at places arcs ds few (and_parts (eqb d 0 || (stands places d a.place && not (among d ds))) _ m).1 k
 
-one_each : {B : Type 0} (places : List ℕ) (arcs : List (Arc B)) (ds : List ℕ) → matches places arcs ds ≡ true → length ds ≡ length arcs
+pub one_each : {B : Type 0} (places : List ℕ) (arcs : List (Arc B)) (ds : List ℕ) → matches places arcs ds ≡ true → length ds ≡ length arcs
 one_each places [] [] m = refl
 one_each places [] (d ∷ ds) m = absurd (false≢true m)
 one_each places (a ∷ arcs) [] m = absurd (false≢true m)

@@ -9,6 +9,7 @@ use Rattle.walks.proofs.Closed.{Same}
 use Rattle.walks.proofs.NormalForms.{same_back, same_from, same_negative, same_sized, same_still, same_settled}
 use Rattle.zones.specs.Predecessors.{among, matches, staying, picked, narrowed_by, DelayPredecessor, FiringPredecessor, Void}
 use Rattle.zones.specs.Zones.{SizedZone}
+use Rattle.zones.proofs.Digits.{one_each}
 use Rattle.cells.specs.Cells.{in_draft, times, matched_cells, picked_cells, input_cells, added_cells, delayed_cells, arc_at, column_least}
 use Rattle.cells.specs.Drafts.{draft_zone, Workable, largest_listed, largest_predecessor}
 use Rattle.cells.specs.Settling.{Ready, Consistent}
@@ -16,7 +17,7 @@ use Rattle.cells.specs.Sifted.{sifted}
 use Rattle.cells.proofs.Grid.{length_matched, length-picked, length-added}
 use Rattle.cells.proofs.Operations.{Rising, matched_is, picked_is, kept_rises, kept_few, added_old, added_row, added_column, added_self, delayed_row, delayed_first, delayed_least, least_zero, least_below, least_reached}
 use Rattle.cells.proofs.Sifted.{sifted-others, sifted_among, sifted_inside, sifted_few}
-use Rattle.cells.proofs.Steps.{Good, normal_good, DelayedTo, delay_good, delay_normal, matches_below, matches_length, narrow_still, narrow_sized, narrow_same, narrow_settled, Added, Grown, grown_added, fired_back, firing_picked, firing_predecessor, firing_good}
+use Rattle.cells.proofs.Steps.{Good, normal_good, DelayedTo, delay_good, delay_normal, matches_below, narrow_still, narrow_sized, narrow_same, narrow_settled, Added, Grown, grown_added, fired_back, firing_picked, firing_predecessor, firing_good}
 
 every_below : (n : ℕ) (xs : List ℕ) (i : ℕ) → 0 < n → Every (λ d. d < n) xs → get_or xs i 0 < n
 every_below n [] i some h = some
@@ -68,7 +69,7 @@ module _ {B : Type 0} (kind : Kind B) (places : List ℕ) (cells : List B) (work
 
     narrow_is : Same n (in_draft kind narrow_cells) (narrowed_by kind t.outputs ms (in_draft kind cells))
     narrow_is j i lj li =
-        matched_is kind t.outputs ms cells work.full (matches_length places t.outputs ms matched) (λ a l. omega (arith, every_below (suc (length places)) ms a (omega arith) (matches_below places t.outputs ms matched), few)) j i (omega (arith, lj, few)) (omega (arith, li, few))
+        matched_is kind t.outputs ms cells work.full (one_each places t.outputs ms matched) (λ a l. omega (arith, every_below (suc (length places)) ms a (omega arith) (matches_below places t.outputs ms matched), few)) j i (omega (arith, lj, few)) (omega (arith, li, few))
 
     narrow_counted : Same n (in_draft kind narrow_cells) (counted kind (narrowed_by kind t.outputs ms (in_draft kind cells)))
     narrow_counted j i lj li = narrow_is j i lj li ∙ sym (narrow_same kind n largest_listed t.outputs ms (in_draft kind cells) (omega arith) work_good j i lj li)

@@ -1,14 +1,10 @@
 -- Sifted tokens, one more at a time. Assumes nothing.
 use Rattle.std.proofs.Common.{◌≡◌, ℕ, zero, suc, ◌+◌, ◌-◌, ◌<◌, ◌≤◌, Bool, true, false, cond, ◌||◌, eqb, ◌⊎◌, List, [], ◌∷◌, ◌++◌, length, sym, refl, ap, ◌∙◌, inl, inr, ⊎_elim, arith}
 use Rattle.std.proofs.lemmas.List.{append_assoc}
-use Rattle.std.proofs.lemmas.Bool.{cond_both, eq-eqb, false≢true, cases_eq}
+use Rattle.std.proofs.lemmas.Bool.{cond_both, eq-eqb, or_right, false≢true, cases_eq}
 use Rattle.walks.specs.Walks.{Inside}
 use Rattle.zones.specs.Predecessors.{among, others}
 use Rattle.cells.specs.Sifted.{agrees, sifted}
-
-or_right : (a b : Bool) → b ≡ true → (a || b) ≡ true
-or_right true b h = refl
-or_right false b h = h
 
 -- a token is taken or passed over, and those after it follow
 pub sifted_step : (matched : Bool) (ms taken : List ℕ) (token end : ℕ) → token < end → (hit : Bool) → agrees (among token ms) matched ≡ hit → cond hit (taken ++ token ∷ []) taken ++ sifted matched ms (token + 1) (end - (token + 1)) ≡ taken ++ sifted matched ms token (end - token)

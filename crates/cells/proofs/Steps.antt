@@ -18,6 +18,7 @@ use Rattle.walks.proofs.Again.{counted_sized, counted_clock, counted_same}
 use Rattle.zones.specs.Zones.{Zone, points}
 use Rattle.zones.specs.Predecessors.{released, among, stands, matches, narrowed, narrowed_by, others, staying, picked, places_of, with_token, with_tokens, Void, FiringPredecessor}
 use Rattle.cells.specs.Cells.{arc_at}
+use Rattle.cells.proofs.Operations.{others_few}
 
 -- closed, no bound of the clock above zero, no bound larger than s
 pub record Good {B : Type 0} (kind : Kind B) (n s : ℕ) (x : Matrix B) : Type 0 where
@@ -82,12 +83,6 @@ matches_below places (a ∷ arcs) (d ∷ ds) h =
     let both = and_parts (eqb d 0 || (stands places d a.place && not (among d ds))) (matches places arcs ds) h in
     (⊎_elim (λ e. omega (arith, eqb-true d 0 e)) (λ e. stands_below places d a.place (and_parts (stands places d a.place) (not (among d ds)) e).0) (or_cases (eqb d 0) (stands places d a.place && not (among d ds)) both.0), matches_below places arcs ds both.1)
 
-pub matches_length : {B : Type 0} (places : List ℕ) (arcs : List (Arc B)) (matching : List ℕ) → matches places arcs matching ≡ true → length matching ≡ length arcs
-matches_length places [] [] h = refl
-matches_length places [] (d ∷ ds) h = absurd (false≢true h)
-matches_length places (a ∷ arcs) [] h = absurd (false≢true h)
-matches_length places (a ∷ arcs) (d ∷ ds) h = ap suc (matches_length places arcs ds (and_parts (eqb d 0 || (stands places d a.place && not (among d ds))) (matches places arcs ds) h).1)
-
 others_inside : (gone : List ℕ) (first n j : ℕ) → 1 ≤ first → get_or (others gone first n) j 0 < first + n
 others_inside gone first zero j h = omega arith
 others_inside gone first (suc n) j h =
@@ -98,12 +93,6 @@ others_inside gone first (suc n) j h =
     taken : (j : ℕ) → ((k : ℕ) → get_or (others gone (suc first) n) k 0 < suc first + n) → get_or (first ∷ others gone (suc first) n) j 0 < first + suc n
     taken zero later = omega arith
     taken (suc k) later = omega (arith, later k)
-
-others_few : (gone : List ℕ) (first n : ℕ) → length (others gone first n) ≤ n
-others_few gone first zero = omega arith
-others_few gone first (suc n) =
-    let less = others_few gone (suc first) n in
-    cond_both (among first gone) (others gone (suc first) n) (first ∷ others gone (suc first) n) (λ l. length l ≤ suc n) (λ _. omega arith) (λ _. omega arith)
 
 -- the tokens that stay are tokens
 pub staying_inside : {B : Type 0} (gone : List ℕ) (z : Zone B) (j : ℕ) → get_or (0 ∷ staying gone z) j 0 < points z

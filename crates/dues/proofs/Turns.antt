@@ -2,11 +2,10 @@
 use Rattle.std.proofs.Common.{◌≡◌, ℕ, zero, suc, ◌+◌, ◌<◌, List, [], ◌∷◌, ◌++◌, length, take, drop, take-append-drop, drop-drop, length-drop, Option, Some, None, sym, ap, ◌∙◌, subst, arith}
 use Rattle.std.proofs.lemmas.List.{append-nil}
 use Rattle.nets.specs.Nets.{Net, Every}
-use Rattle.dues.specs.Dues.{target_item, all_due, due_after, Leads, Awaits}
+use Rattle.dues.specs.Dues.{all_due, due_after, Leads, Awaits}
 use Rattle.dues.specs.DueLaws.{IsDue}
 use Rattle.dues.specs.declared.due.Due.{Due}
 use Rattle.dues.proofs.Lists.{every_parts, every_join}
-use Rattle.dues.proofs.Order.{target_leads}
 use Rattle.dues.proofs.Stands.{all_are_due}
 
 -- ---- any list from its n-th element on
@@ -38,9 +37,6 @@ taken_all n xs none = sym (append-nil (take n xs)) ∙ ap (λ l. take n xs ++ l)
 
 -- ---- what is due
 module _ {B : Type 0} (net : Net B) (listed : List (List ℕ)) where
-  pub awaits_first : Awaits net listed 0 (Some target_item)
-  awaits_first = target_leads net listed
-
   pub awaits_next : (n : ℕ) (d : Due) (next : Option Due) → Awaits net listed n (Some d) → Leads net listed d next → Awaits net listed (n + 1) next
   awaits_next n d None here leads = dropped_more d (due_after net listed d) n (all_due net listed) here ∙ leads
   awaits_next n d (Some next) here leads = dropped_more d (due_after net listed d) n (all_due net listed) here ∙ leads

@@ -7,6 +7,7 @@ use Rattle.nets.specs.Markings.Permuted.{none, keep, swap, join}
 use Rattle.nets.specs.Nets.{Every}
 use Rattle.zones.specs.Predecessors.{among}
 use Rattle.zones.specs.Vouching.{Distinct}
+use Rattle.zones.proofs.Digits.{swapped}
 
 -- ---- one more
 pub at_end : (xs : List ℕ) (x : ℕ) (ys : List ℕ) → get_or (xs ++ x ∷ ys) (length xs) 0 ≡ x
@@ -57,16 +58,10 @@ permuted_length (keep x p) = ap suc (permuted_length p)
 permuted_length (swap x y xs) = refl
 permuted_length (join p q) = permuted_length p ∙ permuted_length q
 
-or_swap : (a b c : Bool) → (a || (b || c)) ≡ (b || (a || c))
-or_swap true true c = refl
-or_swap true false c = refl
-or_swap false true c = refl
-or_swap false false c = refl
-
 permuted_among : (q : ℕ) {xs ys : List ℕ} → Permuted xs ys → among q xs ≡ among q ys
 permuted_among q none = refl
 permuted_among q (keep x p) = ap (λ t. eqb q x || t) (permuted_among q p)
-permuted_among q (swap x y xs) = or_swap (eqb q x) (eqb q y) (among q xs)
+permuted_among q (swap x y xs) = swapped (eqb q x) (eqb q y) (among q xs)
 permuted_among q (join p r) = permuted_among q p ∙ permuted_among q r
 
 pub permuted_distinct : {xs ys : List ℕ} → Permuted xs ys → Distinct xs → Distinct ys

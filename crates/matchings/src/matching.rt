@@ -20,16 +20,19 @@ pub fn arc_count<B: Bound, N: NetStore<B>>(store: &N, transition: u8, side: Side
     store.arcs(transition, side)
 }
 
-// The place of each output arc.
-fn arc_places<B: Bound, N: NetStore<B>>(store: &N, transition: u8) -> ArrayVec<u8, 4>
-    ensures are { result.items ≡ map (λ a. a.place) (arcs_of (N.NetStore.net store.now) transition Output) }
-    ensures few { length (arcs_of (N.NetStore.net store.now) transition Output) ≤ 4 }
-{
-    let mut places = ArrayVec::new();
-    for arc in 1..=arc_count(store, transition, Side::Output) {
-        places.push(store.place(transition, Side::Output, arc));
+impl<'a> Outputs<'a> {
+    // Those of a transition, with tokens in these places. Pushed one by one: `collect` wants an allocator, which fixed memory has not.
+    fn of<B: Bound, N: NetStore<B>>(store: &N, transition: u8, tokens: &'a [u8]) -> Outputs<'a>
+        ensures are { result.arcs.items ≡ map (λ a. a.place) (arcs_of (N.NetStore.net store.now) transition Output) }
+        ensures few { length (arcs_of (N.NetStore.net store.now) transition Output) ≤ 4 }
+        ensures tokens { result.tokens.now ≡ tokens.now }
+    {
+        let mut arcs = ArrayVec::new();
+        for arc in 1..=arc_count(store, transition, Side::Output) {
+            arcs.push(store.place(transition, Side::Output, arc));
+        }
+        Outputs { arcs, tokens }
     }
-    places
 }
 
 // Whether the number says a matching with tokens in these places.
@@ -41,12 +44,7 @@ pub fn is_matching<B: Bound, N: NetStore<B>>(
 ) -> bool
     ensures { result ≡ is_matching places.now (arcs_of (N.NetStore.net store.now) transition Output) matching }
 {
-    let arcs = arc_places(store, transition);
-    let outputs = Outputs {
-        arcs: &arcs,
-        tokens: places,
-    };
-    outputs.count_fitting(&digits(matching)) == 4
+    Outputs::of(store, transition, places).count_fitting(&digits(matching)) == 4
 }
 
 // The next matching above a number, which need not be one.
@@ -58,10 +56,5 @@ pub fn next_matching<B: Bound, N: NetStore<B>>(
 ) -> Option<u16>
     ensures { Next (is_matching places.now (arcs_of (N.NetStore.net store.now) transition Output)) after result }
 {
-    let arcs = arc_places(store, transition);
-    let outputs = Outputs {
-        arcs: &arcs,
-        tokens: places,
-    };
-    outputs.next(after)
+    Outputs::of(store, transition, places).next(after)
 }

@@ -1,8 +1,9 @@
 // The output arcs that a matching gives tokens to.
+use arrayvec::ArrayVec;
 
 // The place of each output arc of a transition, and of each token of a zone.
-#[derive(Clone, Copy)]
-pub(crate) struct Outputs<'a, 'b> {
-    pub(crate) arcs: &'a [u8],
-    pub(crate) tokens: &'b [u8],
+#[derive(Drop)]
+pub(crate) struct Outputs<'a> {
+    pub(crate) arcs: ArrayVec<u8, 4>,
+    pub(crate) tokens: &'a [u8],
 }

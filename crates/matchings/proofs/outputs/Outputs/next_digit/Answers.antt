@@ -7,5 +7,5 @@ use Rattle.matchings.proofs.outputs.Outputs.next_digit.Goals as goal
 
 pub returns : goal.returns
 returns c =
-    let test = fits c.args.self.now.arcs.now c.args.self.now.tokens.now c.args.before.now in
+    let test = fits c.args.self.now.arcs.items c.args.self.now.tokens.now c.args.before.now in
     next_below 16 test c.args.digit c.find.result (first_from_Range _ _ _ c.find.result (λ x. test x ≡ true) (λ x. test x ≡ false) c.find.ensures.ran (λ x q k. search (rules, tests)) (λ x q k. search (rules, tests)))

@@ -9,7 +9,8 @@ ghost use Rattle.std.specs.Prelude.{◌≡◌, length};
 use crate::book::Page;
 use crate::objections::Objection;
 use bounds::Bound;
-use pages::bytes::{byte, numbered_byte, place_of};
+use matchings::numbered;
+use pages::bytes::{byte, place_of};
 use pages::draft::bound_at;
 
 // The zone that a page is to vouch for, in a draft: 13 cells to a row, where a page has 9.
@@ -33,7 +34,7 @@ impl<'a, 'b, 'c, 'd, 'e, B: Bound> Claim<'a, 'b, 'c, 'd, 'e, B> {
     fn partner(&self, point: usize) -> u8
         ensures { result ≡ partner self.now.pairing.now point }
     {
-        numbered_byte(self.pairing, point)
+        numbered(self.pairing, point, 0)
     }
 
     // Whether an earlier token has the partner of token k. Tokens are counted from 0 here.

@@ -8,11 +8,14 @@ ghost use Rattle.std.specs.Prelude.{◌≡◌, ◌≤◌, ◌+◌, length};
 use arrayvec::ArrayVec;
 use bounds::Bound;
 use entries::token::InitialToken;
-use matchings::is_among;
+use matchings::{is_among, numbered};
 use pages::draft::bound_at;
 
 // The tokens of an initial marking, numbered from 1.
 pub type InitialTokens = ArrayVec<InitialToken, 8>;
+
+// The clock, 0, and the number of the token that each token of the zone so far is paired with.
+pub(crate) type Chosen = ArrayVec<u8, 9>;
 
 // The clock is at age 0. No place is asked of it, nor of a number past the last.
 const CLOCK: InitialToken = InitialToken { place: 0, age: 0 };
@@ -37,11 +40,7 @@ impl<'a, 'b, B: Bound> Pairing<'a, 'b, B> {
     fn token(&self, number: u8) -> InitialToken
         ensures { result ≡ numbered self.now.initial.now.items number clock }
     {
-        usize::from(number)
-            .checked_sub(1)
-            .and_then(|index| self.initial.get(index))
-            .copied()
-            .unwrap_or(CLOCK)
+        numbered(self.initial, usize::from(number), CLOCK)
     }
 
     // Whether the bound of two points of the zone allows the difference of the ages of these numbers.
@@ -54,20 +53,18 @@ impl<'a, 'b, B: Bound> Pairing<'a, 'b, B> {
     }
 
     // Whether the bounds between the next token of the zone and each point before it, both ways, allow the ages of their numbers.
-    fn allows_all(&self, chosen: &[u8], number: u8) -> bool
-        requires { length chosen.now ≤ 8 }
-        ensures { result ≡ allows_all B.Bound.kind (in_draft B.Bound.kind self.now.cells.now) (marking_of self.now.initial.now.items) chosen.now number }
+    fn allows_all(&self, chosen: &Chosen, number: u8) -> bool
+        ensures { result ≡ allows_all B.Bound.kind (in_draft B.Bound.kind self.now.cells.now) (marking_of self.now.initial.now.items) chosen.now.items number }
     {
         let next = chosen.len() as u8;
-        (0..next).zip(chosen).all(|(point, other)| {
+        (0..next).zip(chosen.as_slice()).all(|(point, other)| {
             self.allows(next, point, number, *other) && self.allows(point, next, *other, number)
         })
     }
 
     // Whether the next token of the zone, in this place, can be paired with the number, after those that have the chosen ones.
-    pub(crate) fn fits(&self, chosen: &[u8], place: u8, number: u8) -> bool
-        requires { length chosen.now ≤ 8 }
-        ensures { result ≡ fits B.Bound.kind (in_draft B.Bound.kind self.now.cells.now) (marking_of self.now.initial.now.items) chosen.now place number }
+    pub(crate) fn fits(&self, chosen: &Chosen, place: u8, number: u8) -> bool
+        ensures { result ≡ fits B.Bound.kind (in_draft B.Bound.kind self.now.cells.now) (marking_of self.now.initial.now.items) chosen.now.items place number }
     {
         !is_among(number, chosen)
             && self.token(number).place == place

@@ -7,17 +7,13 @@ ghost use Rattle.markings.specs.Pairings.{extends, follows};
 ghost use Rattle.std.specs.Prelude.{◌≡◌, ◌<◌, ◌≤◌, ◌+◌, ◌↔◌, IsTrue, [], ◌∷◌, ◌++◌, length};
 ghost use Rattle.zones.specs.Zones.{Satisfies};
 
-use crate::pairing::{InitialTokens, Pairing};
-use arrayvec::ArrayVec;
+use crate::pairing::{Chosen, InitialTokens, Pairing};
 use bounds::Bound;
 
-// The clock, 0, and the number of the token that each token of the zone is paired with.
-type Chosen = ArrayVec<u8, 9>;
-
 // One number more.
-fn one_more(chosen: &[u8], number: u8) -> Chosen
-    requires { length chosen.now ≤ 8 }
-    ensures { result.items ≡ chosen.now ++ number ∷ [] }
+fn one_more(chosen: &Chosen, number: u8) -> Chosen
+    requires { length chosen.now.items ≤ 8 }
+    ensures { result.items ≡ chosen.now.items ++ number ∷ [] }
 {
     let mut more = Chosen::new();
     let _ = more.try_extend_from_slice(chosen);
@@ -27,9 +23,9 @@ fn one_more(chosen: &[u8], number: u8) -> Chosen
 
 impl<'a, 'b, B: Bound> Pairing<'a, 'b, B> {
     // Whether the zone's tokens in these places can be paired too, after those that have the chosen numbers. At most nine calls deep.
-    fn extends(&self, chosen: &[u8], places: &[u8]) -> bool
-        requires { length chosen.now + length places.now ≤ 9 }
-        ensures { result ≡ extends B.Bound.kind (in_draft B.Bound.kind self.now.cells.now) (marking_of self.now.initial.now.items) chosen.now places.now }
+    fn extends(&self, chosen: &Chosen, places: &[u8]) -> bool
+        requires { length chosen.now.items + length places.now ≤ 9 }
+        ensures { result ≡ extends B.Bound.kind (in_draft B.Bound.kind self.now.cells.now) (marking_of self.now.initial.now.items) chosen.now.items places.now }
     {
         let Some((place, later)) = places.split_first() else {
             return true;
@@ -37,8 +33,8 @@ impl<'a, 'b, B: Bound> Pairing<'a, 'b, B> {
         // A closure that leads back to its function states its own clauses.
         (1..self.end()).any(
             |number|
-                requires { length chosen.now + length later.now ≤ 8 }
-                ensures { result ≡ follows B.Bound.kind (in_draft B.Bound.kind self.entry.now.cells.now) (marking_of self.entry.now.initial.now.items) chosen.entry.now place.entry.now (λ more. extends B.Bound.kind (in_draft B.Bound.kind self.entry.now.cells.now) (marking_of self.entry.now.initial.now.items) more later.entry.now) number }
+                requires { length chosen.now.items + length later.now ≤ 8 }
+                ensures { result ≡ follows B.Bound.kind (in_draft B.Bound.kind self.entry.now.cells.now) (marking_of self.entry.now.initial.now.items) chosen.entry.now.items place.entry.now (λ more. extends B.Bound.kind (in_draft B.Bound.kind self.entry.now.cells.now) (marking_of self.entry.now.initial.now.items) more later.entry.now) number }
             { self.fits(chosen, *place, number) && self.extends(&one_more(chosen, number), later) },
         )
     }
@@ -49,5 +45,5 @@ pub fn satisfies<B: Bound>(initial: &InitialTokens, cells: &[B], places: &[u8]) 
     ensures { IsTrue result ↔ Satisfies B.Bound.kind 1 (draft_zone B.Bound.kind places.now cells.now) (marking_of initial.now.items) }
 {
     let pairing = Pairing { initial, cells };
-    places.len() <= initial.len() && pairing.extends(&[0], places)
+    places.len() <= initial.len() && pairing.extends(&one_more(&Chosen::new(), 0), places)
 }

@@ -1,14 +1,17 @@
-use Rattle.std.proofs.Common.{◌<◌, length, arith}
+use Rattle.std.proofs.Common.{◌<◌, ◌∷◌, [], ◌++◌, length, ap, ◌∙◌, arith}
 use Rattle.std.proofs.lemmas.Bool.{leb-true}
 use Rattle.std.proofs.lemmas.List.{length-map}
 use Rattle.cells.specs.Drafts.{draft_zone}
 use Rattle.markings.specs.Initial.{as_token, marking_of}
+use Rattle.markings.specs.Pairings.{extends}
 use Rattle.markings.proofs.Paired.{decided, enough}
 use Rattle.markings.proofs.search.satisfies.Goals as goal
 
 pub returns-then-places-len : goal.returns-then-places-len
 returns-then-places-len g c =
-    decided g.B.Bound.kind (draft_zone g.B.Bound.kind c.args.places.now c.args.cells.now) (marking_of c.args.initial.now.items) c.extends.result c.extends.ensures
+    let zone = draft_zone g.B.Bound.kind c.args.places.now c.args.cells.now in
+    let m = marking_of c.args.initial.now.items in
+    decided g.B.Bound.kind zone m c.extends.result (c.extends.ensures ∙ ap (λ ps. extends g.B.Bound.kind zone.bound m ps zone.places) (c.one_more.ensures ∙ ap (λ ps. ps ++ 0 ∷ []) c.new.ensures))
 
 pub returns-else-places-len : goal.returns-else-places-len
 returns-else-places-len g c =

@@ -8,6 +8,6 @@ use Rattle.markings.proofs.pairing.Pairing.allows_all.Goals as goal
 
 pub returns : goal.returns
 returns g c =
-    let chosen = c.args.chosen.now in
+    let chosen = c.args.chosen.now.items in
     let test = allows_both g.B.Bound.kind (in_draft g.B.Bound.kind c.args.self.now.cells.now) (marking_of c.args.self.now.initial.now.items) (length chosen) c.args.number in
-    all_from_yields_List test c.all.new.self _ c.all.result c.all.ensures.ran (YieldsList-from_zip {s = c.zip.result} (YieldsList-from_range 0 (length chosen) (length chosen) c.zip.ensures.first (omega arith)) (YieldsList-from_slice chosen cc)) (λ x b q k. search (rules, tests))
+    all_from_yields_List test c.all.new.self _ c.all.result c.all.ensures.ran (YieldsList-from_zip {s = c.zip.result} (YieldsList-from_range 0 c.len.result (length chosen) c.zip.ensures.first (omega (arith, c.len.ensures.value))) (YieldsList-from_slice chosen cc)) (λ x b q k. search (rules, tests))

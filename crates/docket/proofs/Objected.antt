@@ -1,7 +1,8 @@
 -- What it means that nothing stands against a page's vouching; and the same stands for zones with the same places and bounds.
 -- Assumes nothing.
-use Rattle.std.proofs.Common.{◌≡◌, ℕ, Bool, true, false, cond, List, is_err, Ok, Err, Result, sym, refl, ap, ◌∙◌}
+use Rattle.std.proofs.Common.{◌≡◌, ℕ, Bool, true, false, cond, List, Ok, Err, Result, sym, refl, ap, ◌∙◌}
 use Rattle.std.proofs.lemmas.Bool.{true≢false}
+use Rattle.books.proofs.Means.{means}
 use Rattle.books.specs.Objections.{objection_of}
 use Rattle.books.specs.declared.objections.Objection.{Objection}
 use Rattle.books.specs.declared.objections.Objection.TheVariants.{Partner, Place, Bound}
@@ -20,13 +21,6 @@ Tried = Result (Unit {0}) Objection
 abbrev tried : Bool → Bool → Bool → Tried
 tried a b c = cond a (Err Partner) (cond b (Err Place) (cond c (Err Bound) (Ok tt)))
 
--- the first test that holds is the answer
-none_held : (a b c : Bool) → tried a b c ≡ Ok tt → (a ≡ false) × (b ≡ false) × (c ≡ false)
-none_held true b c e = absurd (true≢false (ap is_err e))
-none_held false true c e = absurd (true≢false (ap is_err e))
-none_held false false true e = absurd (true≢false (ap is_err e))
-none_held false false false e = (refl, refl, refl)
-
 -- the last test tells the same of both, where the others hold of neither
 last_alike : (a b c e : Bool) → (a ≡ false → b ≡ false → c ≡ false → e ≡ false) → (a ≡ false → b ≡ false → e ≡ false → c ≡ false) → tried a b c ≡ tried a b e
 last_alike true b c e there back = refl
@@ -37,9 +31,7 @@ last_alike false false true false there back = absurd (true≢false (back refl r
 
 module _ {B : Type 0} (kind : Kind B) (page : Zone B) (pairing : List ℕ) where
   pub unobjected : (x : Zone B) → objection_of kind page x pairing ≡ Ok tt → Vouches kind page x pairing
-  unobjected x e =
-      let none = none_held (partners_unsound page.places x.places pairing) (places_differ page.places x.places pairing) (bound_exceeds kind page.bound x.bound pairing) e in
-      vouches_from kind page x pairing none.0 none.1 none.2
+  unobjected x = (means kind page x pairing (objection_of kind page x pairing) refl).vouches
 
   module _ (places : List ℕ) (x y : Matrix B) where
     abbrev one : Zone B

@@ -1,8 +1,8 @@
 -- A record that was read: what it is refused for, and the page that its zone is written into. Assumes nothing.
-use Rattle.std.proofs.Common.{◌≡◌, ℕ, Bool, true, false, cond, List, ◌∷◌, ◌++◌, length, Ok, Err, Result, Some, None, Option, refl, sym, ap, ◌≤◌, ◌∙◌, subst, inl, inr, arith}
+use Rattle.std.proofs.Common.{◌≡◌, ℕ, Bool, true, false, cond, List, ◌∷◌, ◌++◌, length, Ok, Err, Result, Some, None, Option, refl, sym, ap, ◌≤◌, subst, inl, inr, arith}
 use Rattle.std.proofs.lemmas.Bool.{false≢true}
 use Rattle.arrayvec.specs.ArrayVec.{ArrayVec}
-use Rattle.bounds.specs.Kinds.{Kind, largest_size}
+use Rattle.bounds.specs.Kinds.{Kind}
 use Rattle.cells.specs.Drafts.{draft_zone}
 use Rattle.cells.specs.Loading.{Formed}
 use Rattle.entries.specs.ZoneRecords.{mark_under_plain, no_such_place, not_zero, too_many, wrong_length, zone_fault, zone_of}

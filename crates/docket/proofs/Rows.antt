@@ -1,5 +1,5 @@
 -- What answers by a table are. Assumes nothing.
-use Rattle.std.proofs.Common.{◌≡◌, Bool, true, false, List, [], ◌∷◌, Ok, Err, Result, is_err, ap, sym, ◌∙◌, ⊎_elim}
+use Rattle.std.proofs.Common.{◌≡◌, false, List, [], ◌∷◌, Ok, Err, is_err, ap, sym, ◌∙◌, ⊎_elim}
 use Rattle.std.proofs.lemmas.Bool.{true≢false}
 use Rattle.refusals.specs.declared.refusal.CallRefusal.{CallRefusal}
 use Rattle.seals.specs.Calls.{is_early}

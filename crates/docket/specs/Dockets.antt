@@ -1,8 +1,7 @@
 -- What a docket keeps, and what the parts of its calls answer, which come after the tests of the stage and of lent memory.
 --     draft    the scratch page, in which a zone is worked on
 -- Assumes nothing.
-use Rattle.std.specs.Prelude.{◌≡◌, ℕ, List, ◌∷◌, [], ◌++◌, length, Ok, Err}
-use Rattle.bounds.specs.Kinds.{Kind}
+use Rattle.std.specs.Prelude.{◌≡◌, ℕ, List, Ok, Err}
 use Rattle.docket.specs.declared.docket.Docket.{Docket}
 use Rattle.refusals.specs.declared.refusal.CallRefusal.{CallRefusal}
 use Rattle.seals.specs.Tables.{Answer, Answers, Row}

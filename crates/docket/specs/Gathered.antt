@@ -1,6 +1,6 @@
 -- The initial tokens that an open is given, or what is wrong with them.
 -- Assumes nothing.
-use Rattle.std.specs.Prelude.{ℕ, Bool, cond, ◌||◌, List, length, Ok, Err, Result, nat_le, nat_lt}
+use Rattle.std.specs.Prelude.{ℕ, cond, ◌||◌, List, length, Ok, Err, Result, nat_le, nat_lt}
 use Rattle.std.specs.List.{list_any}
 use Rattle.arrayvec.specs.ArrayVec.{ArrayVec}
 use Rattle.entries.specs.declared.fault.EntryRefusal.{EntryRefusal}

@@ -1,4 +1,4 @@
-use Rattle.std.proofs.Common.{◌+◌, ◌∙◌, ap, set, subst, sym, arith}
+use Rattle.std.proofs.Common.{◌+◌, set, subst, sym, arith}
 use Rattle.docket.proofs.Parts.{Written, all_written, one_written}
 use Rattle.docket.proofs.memory.write_part.Goals as goal
 

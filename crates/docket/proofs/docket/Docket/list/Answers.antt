@@ -1,4 +1,4 @@
-use Rattle.std.proofs.Common.{◌≡◌, ◌++◌, ◌∷◌, [], length, Ok, Err, refl, sym, ap, ◌∙◌, subst, inl, inr}
+use Rattle.std.proofs.Common.{◌++◌, ◌∷◌, [], length, Ok, Err, refl, sym, ap, ◌∙◌, subst, inl, inr}
 use Rattle.std.proofs.lemmas.Bool.{false≢true}
 use Rattle.cells.specs.Drafts.{draft_zone}
 use Rattle.entries.specs.ZoneRecords.{zone_of}
@@ -6,11 +6,9 @@ use Rattle.markings.specs.Initial.{marking_of}
 use Rattle.refusals.specs.declared.refusal.CallRefusal.TheVariants.{Covered}
 use Rattle.seals.specs.Calls.{with_page, cells_of, places_of}
 use Rattle.seals.specs.Tables.{row}
-use Rattle.seals.specs.Worlds.{State}
 use Rattle.seals.specs.declared.stage.Stage.TheVariants.{Listing}
 use Rattle.zones.specs.Zones.{Satisfies}
-use Rattle.docket.specs.Dockets.{world_of}
-use Rattle.docket.proofs.Records.{RecordTaken, form_covers, page_written, recorded, zone_covers}
+use Rattle.docket.proofs.Records.{form_covers, page_written, recorded, zone_covers}
 use Rattle.docket.proofs.Rows.{not_refused, not_taken}
 use Rattle.docket.proofs.docket.Docket.list.Goals as goal
 

@@ -1,4 +1,4 @@
-use Rattle.std.proofs.Common.{◌≡◌, ℕ, List, ◌∷◌, [], ◌++◌, length, replicate, cond, true, Ok, Err, refl, sym, ap, ◌∙◌, subst, inr, rules, arith}
+use Rattle.std.proofs.Common.{◌≡◌, ℕ, List, ◌∷◌, [], ◌++◌, length, replicate, cond, true, refl, sym, ap, ◌∙◌, subst, inr, rules, arith}
 use Rattle.std.proofs.lemmas.Bool.{eq-eqb, false≢true}
 use Rattle.entries.specs.ZoneRecords.{zone_of}
 use Rattle.markings.specs.Initial.{marking_of}

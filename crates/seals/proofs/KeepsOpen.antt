@@ -1,6 +1,6 @@
 -- Open keeps the docket and the log in agreement. Assumes nothing.
 use Rattle.std.proofs.Common.{◌≡◌, ℕ, ◌<◌, false, ◌&&◌, eqb, List, [], length, get_or, Ok, Err, Some, None, Option, refl, sym, ap, ◌∙◌, subst, arith}
-use Rattle.std.proofs.lemmas.Bool.{and_parts}
+use Rattle.std.proofs.lemmas.Bool.{and_parts, true_from_ne_false}
 use Rattle.bounds.specs.Kinds.{Kind}
 use Rattle.dues.specs.Dues.{target_item}
 use Rattle.dues.proofs.Order.{target_leads}
@@ -15,7 +15,7 @@ use Rattle.zones.specs.Zones.{Zone}
 use Rattle.seals.proofs.Agrees.{Agrees, AgreesAs, AgreesOpened, PageAgrees, zone_said}
 use Rattle.seals.proofs.Moved.{unmoved}
 use Rattle.seals.proofs.Taken.{none_holds, opened_not_blank}
-use Rattle.seals.proofs.Written.{Whole, page_agrees, true_from, whole_after, whole_parts}
+use Rattle.seals.proofs.Written.{Whole, page_agrees, whole_after, whole_parts}
 
 module _ {B : Type 0} (kind : Kind B) (net : Net B) where
   abbrev opening : (places ages : List ℕ) → Zone B → Opening B
@@ -56,6 +56,6 @@ module _ {B : Type 0} (kind : Kind B) (net : Net B) where
   pub keeps_open : (log : Log B) (w u : World B) (places ages target : List ℕ) (lent : List B) (answer : Answer) → Agrees kind net log w → Step kind net w (Open places ages target lent answer) u → Agrees kind net (with_call kind log (Open places ages target lent answer)) u
   keeps_open log w u places ages target lent (Ok t) agrees step =
       let fails = none_holds (open_table kind net w lent places ages target) step.1.answers in
-      let memory = and_parts (whole w lent) (eqb (length places) (length ages)) (true_from (whole w lent && eqb (length places) (length ages)) fails.1.0) in
+      let memory = and_parts (whole w lent) (eqb (length places) (length ages)) (true_from_ne_false (whole w lent && eqb (length places) (length ages)) fails.1.0) in
       open_taken log w u places ages (zone_of kind target) log.opening agrees (whole_parts w lent memory.0) fails.0 (step.1.taken refl)
   keeps_open log w u places ages target lent (Err r) agrees step = unmoved kind net log w u (step.1.refused r refl) agrees

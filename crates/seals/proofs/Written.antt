@@ -1,6 +1,6 @@
 -- A docket's pages after one was written: that page holds its zone's normal form, and the pages before it are as they were. Assumes nothing.
-use Rattle.std.proofs.Common.{◌≡◌, ℕ, ◌*◌, ◌<◌, ◌≤◌, Bool, true, false, ◌&&◌, eqb, List, length, take, drop, get_or, sym, ap, ◌∙◌, subst, ⊎_elim, arith}
-use Rattle.std.proofs.lemmas.Bool.{and_parts, cases_Bool, eqb-true}
+use Rattle.std.proofs.Common.{◌≡◌, ℕ, ◌*◌, ◌<◌, ◌≤◌, true, ◌&&◌, eqb, List, length, take, drop, get_or, sym, ap, ◌∙◌, subst, arith}
+use Rattle.std.proofs.lemmas.Bool.{and_parts, eqb-true}
 use Rattle.bounds.specs.Kinds.{Kind}
 use Rattle.cells.specs.Objections.{page_zone}
 use Rattle.zones.specs.Zones.{Zone}
@@ -10,9 +10,6 @@ use Rattle.seals.proofs.Agrees.{PageAgrees}
 use Rattle.seals.proofs.Pages.{formed_held, normal_held, page_holds, page_old, page_then, length-cells_of, length-places_of, length-with_page}
 
 -- ---- memory of the stated lengths
-pub true_from : (b : Bool) → (b ≡ false → ⊥) → b ≡ true
-true_from b other = ⊎_elim (λ e. e) (λ e. absurd (other e)) (cases_Bool b)
-
 pub record Whole {B : Type 0} (w : World B) : Type 0 where
   pub cells : length w.cells ≡ 5184
   pub places : length w.places ≡ 512

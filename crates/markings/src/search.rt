@@ -10,7 +10,7 @@ ghost use Rattle.zones.specs.Zones.{Satisfies};
 use crate::pairing::{Chosen, InitialTokens, Pairing};
 use bounds::Bound;
 
-// One number more.
+// One number more; there is room for nine.
 fn one_more(chosen: &Chosen, number: u8) -> Chosen
     requires { length chosen.now.items ≤ 8 }
     ensures { result.items ≡ chosen.now.items ++ number ∷ [] }
@@ -30,7 +30,8 @@ impl<'a, 'b, B: Bound> Pairing<'a, 'b, B> {
         let Some((place, later)) = places.split_first() else {
             return true;
         };
-        // A closure that leads back to its function states its own clauses.
+        // A closure that leads back to its function states its own clauses. With the room for the numbers in a ghost field of a struct
+        // that it captures, no proof was found that the calls end.
         (1..self.end()).any(
             |number|
                 requires { length chosen.now.items + length later.now ≤ 8 }

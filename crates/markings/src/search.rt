@@ -31,7 +31,7 @@ impl<'a, 'b, B: Bound> Pairing<'a, 'b, B> {
             return true;
         };
         // A closure that leads back to its function states its own clauses. With the room for the numbers in a ghost field of a struct
-        // that it captures, no proof was found that the calls end.
+        // that it captures, no proof was found that it can be called.
         (1..self.end()).any(
             |number|
                 requires { length chosen.now.items + length later.now ≤ 8 }

@@ -126,7 +126,7 @@ fn ten_vouchers_seal(rt: HostRuntime) -> Result<(), Fail> {
 }
 
 #[test]
-fn a_docket_refuses_by_number(rt: HostRuntime) -> Result<(), Fail> {
+fn listing_refuses_by_number(rt: HostRuntime) -> Result<(), Fail> {
     let heap = rt.alloc();
     let bytes = two_carriers(heap)?;
     let target = record(heap, &BOTH_IN_1, &[])?;
@@ -144,6 +144,14 @@ fn a_docket_refuses_by_number(rt: HostRuntime) -> Result<(), Fail> {
     assert_eq!(rt; number(line.post(&record(heap, &NONE, &[])?)), Some(26));
     assert_eq!(rt; line.docket.listed(), 3);
     assert_eq!(rt; number(line.discharge(&ZONE_1)), Some(40));
+    Ok(())
+}
+
+#[test]
+fn proving_refuses_by_number(rt: HostRuntime) -> Result<(), Fail> {
+    let heap = rt.alloc();
+    let bytes = two_carriers(heap)?;
+    let mut line = listed(heap, &bytes)?;
     line.docket.close()?;
     for (voucher, refusal) in [
         // spare, a partner past the zone's tokens, void with a zone

@@ -57,7 +57,7 @@ impl Docket {
         }
     }
 
-    fn read(&self, bytes: &[u8]) -> Result<Voucher, EntryRefusal>
+    fn read_voucher(&self, bytes: &[u8]) -> Result<Voucher, EntryRefusal>
         ensures { result ≡ voucher_read (state_of self.now) bytes.now }
     {
         let voucher = Voucher::read(bytes)?;
@@ -101,17 +101,17 @@ impl Docket {
             (false, None) => Err(CallRefusal::VoidItem),
             (false, Some(_)) if !self.is_listed(voucher.zone) => Err(CallRefusal::NoSuchZone),
             (false, Some(tokens)) => {
-                let asked = Item {
+                let item = Item {
                     cells: draft,
                     places: &tokens,
                 };
-                Ok(self.objection(book, asked, voucher)?)
+                Ok(self.objection(book, item, voucher)?)
             }
         }
     }
 
     // Whether the voucher answers the item. The scratch page is left with what was worked out.
-    fn vouch<B: Bound, N: NetStore<B>>(
+    fn weigh<B: Bound, N: NetStore<B>>(
         &self,
         store: &N,
         book: &Book<'_, '_, B>,
@@ -121,7 +121,7 @@ impl Docket {
     ) -> Result<(), CallRefusal>
         ensures { Weighed B.Bound.kind (N.NetStore.net store.now) (world_of self.now book.now.cells.now book.now.places.now) bytes.now item scratch.old scratch.new result }
     {
-        let voucher = self.read(bytes)?;
+        let voucher = self.read_voucher(bytes)?;
         let asked = item_zone(store, &self.page(book, item.zone), item, scratch);
         self.judge(book, scratch, asked, &voucher)
     }
@@ -155,7 +155,7 @@ impl Docket {
             return Err(CallRefusal::WrongMemory);
         }
         let book = Book { cells, places };
-        let answer = self.vouch(store, &book, scratch, voucher, item);
+        let answer = self.weigh(store, &book, scratch, voucher, item);
         wipe(scratch);
         answer?;
         self.advance(store, &book, item);

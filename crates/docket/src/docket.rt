@@ -1,6 +1,7 @@
 // What a docket keeps between its calls: how far it has come, the initial tokens, and how many tokens each page has.
 ghost use Rattle.docket.specs.Dockets.{state_of};
 ghost use Rattle.seals.specs.Calls.{Closes, next_due_of};
+ghost use Rattle.seals.specs.Tables.{is_sealed};
 ghost use Rattle.seals.specs.Worlds.{blank, listed_count};
 ghost use Rattle.std.specs.Prelude.{◌≡◌};
 
@@ -59,6 +60,12 @@ impl Docket {
             Stage::Proving(item) => Some(item),
             Stage::Blank | Stage::Listing | Stage::Sealed => None,
         }
+    }
+
+    pub fn is_sealed(&self) -> bool
+        ensures { result ≡ is_sealed (state_of self.now).stage }
+    {
+        self.stage == Stage::Sealed
     }
 
     // How many zones are listed.

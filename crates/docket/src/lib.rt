@@ -8,3 +8,4 @@ mod open;
 mod post;
 
 pub use docket::Docket;
+pub use memory::{BOOK_CELLS, BOOK_PLACES};

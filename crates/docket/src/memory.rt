@@ -8,19 +8,19 @@ ghost use Rattle.std.specs.Prelude.{◌≡◌, ◌==◌, ◌&&◌, ◌+◌, ◌*
 use books::Page;
 use bounds::Bound;
 use pages::bytes::byte;
-use pages::draft::bound_at;
+use pages::draft::{DRAFT_CELLS, bound_at};
 
-const BOOK_CELLS: usize = 5184;
+// 64 pages of 81 cells.
+pub const BOOK_CELLS: usize = 5184;
 
-const BOOK_PLACES: usize = 512;
-
-const SCRATCH_CELLS: usize = 169;
+// Eight to a page.
+pub const BOOK_PLACES: usize = 512;
 
 // Whether the book and the scratch page have the stated lengths.
 pub(crate) fn is_whole<B: Bound>(cells: &[B], places: &[u8], scratch: &[B]) -> bool
     ensures { result ≡ (length cells.now == 5184 && (length places.now == 512 && length scratch.now == 169)) }
 {
-    cells.len() == BOOK_CELLS && places.len() == BOOK_PLACES && scratch.len() == SCRATCH_CELLS
+    cells.len() == BOOK_CELLS && places.len() == BOOK_PLACES && scratch.len() == DRAFT_CELLS
 }
 
 // So many items from a start on; what lies past the end is none.

@@ -1,6 +1,6 @@
 // Whether a token of a zone can be paired with a token of an initial marking.
 ghost use Rattle.cells.specs.Cells.{in_draft};
-ghost use Rattle.markings.specs.Initial.{marking_of, clock, token_at};
+ghost use Rattle.markings.specs.Initial.{marking_of, clock};
 ghost use Rattle.markings.specs.Pairings.{allows, allows_all, fits};
 ghost use Rattle.nets.specs.Nets.{numbered};
 ghost use Rattle.std.specs.Prelude.{◌≡◌, ◌≤◌, ◌+◌, length};

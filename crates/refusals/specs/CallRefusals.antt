@@ -24,5 +24,5 @@ call_text VoidItem = codes "the item is void"
 call_text NoSuchZone = codes "there is no listed zone of this number"
 call_text (Objected o) = objection_text o
 call_text WrongStage = codes "the call does not belong to this stage"
-call_text WrongMemory = codes "lent memory is not of its length, or the lists of initial tokens are unequal"
+call_text WrongMemory = codes "lent memory is not of its length, or initial places and ages differ in number"
 call_text FullList = codes "there are 63 listed zones already"

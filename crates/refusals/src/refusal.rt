@@ -19,13 +19,13 @@ pub enum CallRefusal {
     NotVoid,
     // 28: a void item is given a pairing
     VoidItem,
-    // 29
+    // 29: the voucher names a zone outside the list
     NoSuchZone,
     // 30 to 32: what stands against the zone that a voucher names
     Objected(Objection),
     // 40
     WrongStage,
-    // 41: lent memory is not of the stated length, or the lists of initial tokens are unequal
+    // 41: lent memory is not of the stated length, or those of initial places and ages differ in length
     WrongMemory,
     // 42: a 64th zone
     FullList,
@@ -88,7 +88,7 @@ impl fmt::Display for CallRefusal {
             CallRefusal::Objected(objection) => return write!(f, "{objection}"),
             CallRefusal::WrongStage => "the call does not belong to this stage",
             CallRefusal::WrongMemory =>
-                "lent memory is not of its length, or the lists of initial tokens are unequal",
+                "lent memory is not of its length, or initial places and ages differ in number",
             CallRefusal::FullList => "there are 63 listed zones already",
         })
     }

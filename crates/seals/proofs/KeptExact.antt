@@ -12,7 +12,8 @@ use Rattle.seals.specs.Promise.{ByRules, Holds, InitialSaid, PagesSaid, due_said
 use Rattle.seals.specs.Worlds.{World, page_of}
 use Rattle.seals.specs.declared.stage.Stage.TheVariants.{Sealed}
 use Rattle.seals.proofs.Agrees.{AgreesAs}
-use Rattle.seals.proofs.KeptTruth.{is_sealed, sealed_true}
+use Rattle.seals.specs.Tables.{is_sealed}
+use Rattle.seals.proofs.KeptTruth.{sealed_true}
 use Rattle.seals.proofs.Sounds.{agrees_sound}
 
 module _ {B : Type 0} (kind : Kind B) (net : Net B) (log : Log B) where

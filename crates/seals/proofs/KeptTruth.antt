@@ -15,19 +15,13 @@ use Rattle.zones.specs.Zones.{Zone, Satisfies, SizedZone}
 use Rattle.zones.proofs.ZoneLaws.{zones_keep_laws}
 use Rattle.seals.specs.Logs.{Log, Opening, still_due}
 use Rattle.seals.specs.Promise.{proving_stage, stage_said}
+use Rattle.seals.specs.Tables.{is_sealed}
 use Rattle.seals.specs.Worlds.{World, listed_count, listed_pages, page_of}
-use Rattle.seals.specs.declared.stage.Stage.{Stage}
-use Rattle.seals.specs.declared.stage.Stage.TheVariants.{Blank, Listing, Proving, Sealed}
+use Rattle.seals.specs.declared.stage.Stage.TheVariants.{Sealed}
 use Rattle.seals.proofs.Agrees.{AgreesOpened}
 use Rattle.seals.proofs.Listed.{listed_as_many, places_listed}
 
 -- ---- the seal stands where nothing is due
-abbrev pub is_sealed : Stage → Bool
-is_sealed Blank = false
-is_sealed Listing = false
-is_sealed (Proving d) = false
-is_sealed Sealed = true
-
 none_left : (items : List Due) → proving_stage items ≡ Sealed → items ≡ []
 none_left [] e = refl
 none_left (d ∷ items) e = absurd (false≢true (ap is_sealed e))

@@ -64,6 +64,12 @@ is_proving Listing = false
 is_proving (Proving d) = true
 is_proving Sealed = false
 
+abbrev pub is_sealed : Stage → Bool
+is_sealed Blank = false
+is_sealed Listing = false
+is_sealed (Proving d) = false
+is_sealed Sealed = true
+
 -- the first item that is due; only asked for in proving
 abbrev pub due_in : Stage → Due
 due_in Blank = target_item

@@ -6,11 +6,11 @@ use Rattle.docket.proofs.docket.Docket.take.Goals as goal
 pub returns-in_err-answer : goal.returns-in_err-answer
 returns-in_err-answer g c =
     call_refused g.B.Bound.kind (g.N.NetStore.net c.args.store.now) (world_of c.args.self.now c.args.cells.now c.args.places.now) c.args.voucher.now c.in-Proving.item
-    c.args.scratch.now c.vouch-answer.new.scratch c.wipe.new.cells c.in-Proving.is (search rules) c.wipe.ensures
-    c.in_err-answer.field-0.0 c.vouch-answer.result c.from_residual.result c.in_err-answer.was (search rules) c.vouch-answer.ensures
+    c.args.scratch.now c.weigh-answer.new.scratch c.wipe.new.cells c.in-Proving.is (search rules) c.wipe.ensures
+    c.in_err-answer.field-0.0 c.weigh-answer.result c.from_residual.result c.in_err-answer.was (search rules) c.weigh-answer.ensures
 
 pub returns : goal.returns
 returns g c =
     call_taken g.B.Bound.kind (g.N.NetStore.net c.args.store.now) (world_of c.args.self.now c.args.cells.now c.args.places.now) c.args.voucher.now c.in-Proving.item
-    c.args.scratch.now c.vouch-answer.new.scratch c.wipe.new.cells c.in-Proving.is (search rules) c.wipe.ensures
-    c.vouch-answer.result c.in_ok-answer.was c.vouch-answer.ensures (state_of c.advance.new.self) c.advance.ensures
+    c.args.scratch.now c.weigh-answer.new.scratch c.wipe.new.cells c.in-Proving.is (search rules) c.wipe.ensures
+    c.weigh-answer.result c.in_ok-answer.was c.weigh-answer.ensures (state_of c.advance.new.self) c.advance.ensures

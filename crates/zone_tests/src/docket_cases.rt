@@ -16,8 +16,15 @@ use records::packed::PackedNet;
 use std::alloc::{AllocError, Global};
 use std::test::Fail;
 
-// The places of the tokens of the target, which none are asked of, and of the three listed zones.
-const PLACES: [&[u8]; 4] = [&[], &[1, 1], &[1, 0], &[0, 0]];
+// The places of the tokens of a listed zone; of the target none are asked.
+fn places_of(zone: u8) -> &'static [u8] {
+    match zone {
+        1 => &[1, 1],
+        2 => &[1, 0],
+        3 => &[0, 0],
+        _ => &[],
+    }
+}
 
 // Zone, transition and matching of each item, in order.
 pub const ITEMS: [(u8, u8, u16); 10] = [
@@ -59,7 +66,7 @@ fn ten_items_are_due(rt: HostRuntime) -> Result<(), Fail> {
     let followers = ITEMS.iter().skip(1).map(|later| Some(item(*later)));
     for (listed, later) in ITEMS.iter().zip(followers.chain([None])) {
         let due = item(*listed);
-        let places = PLACES[usize::from(due.zone)];
+        let places = places_of(due.zone);
         assert_eq!(rt; next_due::<PlainBound, _>(&store, 3, places, due), later);
     }
     Ok(())
@@ -69,7 +76,7 @@ fn ten_items_are_due(rt: HostRuntime) -> Result<(), Fail> {
 fn aged(ages: &[u16]) -> InitialTokens {
     let mut tokens = InitialTokens::new();
     for age in ages {
-        tokens.push(InitialToken {
+        let _ = tokens.try_push(InitialToken {
             place: 0,
             age: *age,
         });

@@ -140,8 +140,9 @@ fn listing_refuses_by_number(rt: HostRuntime) -> Result<(), Fail> {
     assert_eq!(rt; number(line.open(&[0], &[], &target)), Some(41));
     assert_eq!(rt; number(line.open(&[0; 9], &[0; 9], &target)), Some(22));
     assert_eq!(rt; number(line.open(&[2], &[32768], &target)), Some(22));
-    assert_eq!(rt; number(line.open(&[2], &[0], &target[1..])), Some(23));
-    assert_eq!(rt; number(line.open(&[0], &[0], &target[1..])), Some(20));
+    let short = [0; 191];
+    assert_eq!(rt; number(line.open(&[2], &[0], &short)), Some(23));
+    assert_eq!(rt; number(line.open(&[0], &[0], &short)), Some(20));
     let mut line = listed(heap, &bytes)?;
     assert_eq!(rt; number(line.open(&[0], &[0], &target)), Some(40));
     // every marking satisfies a zone of no tokens

@@ -11,6 +11,7 @@ pub mod KeepsPost
 pub mod KeepsDischarge
 pub mod Keeps
 pub mod KeptTruth
+pub mod Reaching
 pub mod KeptExact
 pub mod KeptAsked
 pub mod KeptVouch

@@ -3,3 +3,4 @@ pub mod Tables
 pub mod Calls
 pub mod Logs
 pub mod Promise
+pub mod Reached

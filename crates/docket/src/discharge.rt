@@ -7,7 +7,7 @@ ghost use Rattle.seals.specs.Calls.{Discharges};
 ghost use Rattle.seals.specs.Promise.{Promise};
 ghost use Rattle.seals.specs.Tables.{pairing_of, partners_used};
 ghost use Rattle.seals.specs.Worlds.{in_list, page_cells, page_of, page_places};
-ghost use Rattle.std.specs.Prelude.{◌≡◌, slice_index};
+ghost use Rattle.std.specs.Prelude.{◌≡◌, ◌<◌, length, slice_index};
 
 use crate::docket::Docket;
 use crate::memory::{is_whole, page};
@@ -33,9 +33,11 @@ impl Docket {
         byte(&self.counts, usize::from(number))
     }
 
-    fn page<'a, 'b, B: Bound>(&self, book: &Book<'a, 'b, B>, number: u8) -> Page<'a, 'b, B>
+    // The page with this number, and the places of its tokens.
+    pub fn page<'a, 'b, B: Bound>(&self, book: &Book<'a, 'b, B>, number: u8) -> Page<'a, 'b, B>
         ensures cells { result.cells.now ≡ page_cells (world_of self.now book.now.cells.now book.now.places.now) number }
         ensures places { result.places.now ≡ page_places (world_of self.now book.now.cells.now book.now.places.now) number }
+        ensures few { length result.places.now < 256 }
     {
         page(book.cells, book.places, number, self.tokens_of(number))
     }
@@ -47,7 +49,7 @@ impl Docket {
     }
 
     // How many partners a voucher uses: all, where its zone is not listed.
-    fn partners_used(&self, voucher: &Voucher) -> u8
+    pub fn partners_used(&self, voucher: &Voucher) -> u8
         ensures { result ≡ partners_used (state_of self.now) voucher.now }
     {
         if self.is_listed(voucher.zone) {

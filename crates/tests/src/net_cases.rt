@@ -152,14 +152,18 @@ mod tests {
     }
 
     #[test]
-    fn the_lower_number_wins_in_a_record(rt: HostRuntime) -> Result<(), Fail> {
+    fn the_lower_number_wins_in_a_slot(rt: HostRuntime) -> Result<(), Fail> {
         let heap = rt.alloc();
-        // both in one slot, then the lower number in the later slot
         check_case(&rt, heap, PLAIN, ONE_IN, &[(0, [8, 0, 0, 0, 1])], Some(11))?;
         check_case(&rt, heap, PLAIN, ONE_IN, &[(0, [10, 0, 0, 0, 2])], Some(13))?;
         check_case(&rt, heap, PLAIN, ONE_IN, &[(0, [2, 0, 4, 0, 0])], Some(14))?;
         check_case(&rt, heap, PLAIN, 0xb0, &[(0, PLACE_2)], Some(12))?;
-        check_case(&rt, heap, PLAIN, 0xa1, &[], Some(11))?;
+        check_case(&rt, heap, PLAIN, 0xa1, &[], Some(11))
+    }
+
+    #[test]
+    fn the_lower_number_wins_in_a_later_slot(rt: HostRuntime) -> Result<(), Fail> {
+        let heap = rt.alloc();
         check_case(
             &rt,
             heap,
@@ -191,7 +195,12 @@ mod tests {
             FOUR_EACH,
             &[(1, ONE_TO_0), (5, PLACE_2)],
             Some(13),
-        )?;
+        )
+    }
+
+    #[test]
+    fn an_unused_slot_counts_before_a_range(rt: HostRuntime) -> Result<(), Fail> {
+        let heap = rt.alloc();
         check_case(
             &rt,
             heap,

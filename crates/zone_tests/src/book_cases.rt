@@ -1,9 +1,9 @@
 // Pages of a book, and what stands against a page's vouching.
 use crate::drafts::{draft, number};
-use crate::zone_records::*;
 use books::{Book, Claim, Item, Objection, Page};
 use bounds::{Bound, PlainBound};
 use std::test::Fail;
+use test_records::zone_records::*;
 
 // A page whose first token has an age from 0 up to this bound; all else has no limit.
 fn page_cells(upper: PlainBound) -> [PlainBound; 81] {

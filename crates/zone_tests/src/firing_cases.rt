@@ -1,12 +1,12 @@
 // The firing predecessor and the matchings of one transition.
 use crate::drafts::{check_bounds, draft};
-use crate::net_records::one_transition;
 use bounds::PlainBound;
 use matchings::{is_matching, next_matching};
 use pages::firing::firing_predecessor;
 use records::packed::PackedNet;
 use std::alloc::{AllocError, Global};
 use std::test::Fail;
+use test_records::net_records::one_transition;
 
 const A: u8 = 0;
 

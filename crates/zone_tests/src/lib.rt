@@ -4,16 +4,10 @@
 #[cfg(test)]
 mod book_cases;
 #[cfg(test)]
-mod docket_cases;
-#[cfg(test)]
 mod drafts;
 #[cfg(test)]
 mod firing_cases;
 #[cfg(test)]
-mod net_records;
-#[cfg(test)]
-mod seal_cases;
+mod marking_cases;
 #[cfg(test)]
 mod zone_cases;
-#[cfg(test)]
-mod zone_records;

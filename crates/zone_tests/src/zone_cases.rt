@@ -1,6 +1,5 @@
 // What records are refused for, normal forms, and the delay predecessor.
 use crate::drafts::{check_bounds, draft};
-use crate::zone_records::*;
 use bounds::{Bound, MarkedBound, PlainBound};
 use pages::delay::delay_predecessor;
 use pages::draft::DRAFT_CELLS;
@@ -9,6 +8,7 @@ use records::fault::Refusal;
 use std::alloc::Global;
 use std::process::Abort;
 use std::test::Fail;
+use test_records::zone_records::*;
 
 // A token in places 2 and 3, of which a net of three places has the first alone.
 const IN_2: [u8; 2] = [1, 0x08];
@@ -90,7 +90,7 @@ fn check_ages(
 }
 
 #[test]
-fn records_are_refused_by_the_lowest_number(rt: HostRuntime) -> Result<(), Fail> {
+fn unused_fields_of_a_record_are_refused(rt: HostRuntime) -> Result<(), Fail> {
     let heap = rt.alloc();
     check_case(&rt, heap, &[0], &[], TAKEN)?;
     check_case(&rt, heap, &IN_2, &[], TAKEN)?;
@@ -111,7 +111,12 @@ fn records_are_refused_by_the_lowest_number(rt: HostRuntime) -> Result<(), Fail>
     check_both(&rt, heap, &IN_2, &[(1, 2, 0)], 21)?;
     check_both(&rt, heap, &IN_2, &[(8, 7, 0x40001)], 21)?;
     check_both(&rt, heap, &IN_2, &[(2, 1, MARKED_NO_LIMIT)], 21)?;
-    check_both(&rt, heap, &IN_2, &[(1, 0, MARKED_NO_LIMIT)], 21)?;
+    check_both(&rt, heap, &IN_2, &[(1, 0, MARKED_NO_LIMIT)], 21)
+}
+
+#[test]
+fn records_are_refused_by_the_lowest_number(rt: HostRuntime) -> Result<(), Fail> {
+    let heap = rt.alloc();
     // 21 before each later number
     check_both(&rt, heap, &[0x19], &[], 21)?;
     check_both(&rt, heap, &[9], &[(1, 0, MARKED_NO_LIMIT)], 21)?;

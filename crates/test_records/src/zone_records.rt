@@ -14,6 +14,13 @@ pub const MINUS_3: u32 = 0x7fffd;
 
 pub const MINUS_5: u32 = 0x7fffb;
 
+pub const STRICT_0: u32 = 0x80000;
+
+// Marked -1 and -2 in the clock's row: ages above 1 and above 2.
+pub const ABOVE_1: u32 = 0xfffff;
+
+pub const ABOVE_2: u32 = 0xffffe;
+
 pub const BELOW_2: u32 = 0x80002;
 
 pub const BELOW_3: u32 = 0x80003;

@@ -1,0 +1,107 @@
+// Dockets of the line of two carriers at each of their stages, and what is asked of each stage.
+use crate::line::{Call, Line};
+use bounds::Bound;
+use std::alloc::{AllocError, Global};
+use std::process::Abort;
+use test_records::net_records::one_transition;
+use test_records::zone_records::record;
+
+// Records by the count and the places of their tokens: two in place 1, in places 1 and 0, two in place 0, one in place 1.
+pub const BOTH_IN_1: [u8; 3] = [2, 0x04, 0x10];
+
+pub const ONE_EACH: [u8; 2] = [2, 0x04];
+
+pub const BOTH_IN_0: [u8; 1] = [2];
+
+pub const ONE_IN_1: [u8; 2] = [1, 0x04];
+
+// Each names a listed zone and pairs 1 with 1 and 2 with 2.
+pub const ZONE_1: [u8; 6] = [0x02, 0x24, 0, 0, 0, 0];
+
+pub const ZONE_2: [u8; 6] = [0x04, 0x24, 0, 0, 0, 0];
+
+pub const ZONE_3: [u8; 6] = [0x06, 0x24, 0, 0, 0, 0];
+
+pub const VOUCHERS: [[u8; 6]; 10] = [
+    ZONE_1, ZONE_1, ZONE_1, ZONE_2, ZONE_2, ZONE_2, ZONE_2, ZONE_3, ZONE_3, ZONE_3,
+];
+
+#[derive(Clone, Copy, PartialEq, Eq, Debug)]
+pub enum Stage {
+    Blank,
+    Listing,
+    // listing, with 63 zones
+    Full,
+    Proving,
+    Sealed,
+}
+
+pub const STAGES: [Stage; 5] = [
+    Stage::Blank,
+    Stage::Listing,
+    Stage::Full,
+    Stage::Proving,
+    Stage::Sealed,
+];
+
+// A net of two places: from place 0, age 1 to 2, into place 1 at age 0.
+pub fn two_carriers(heap: Global) -> Result<Vec<u8>, AllocError> {
+    one_transition(
+        heap,
+        &[0x41, 0x02, 0x00, 0x00],
+        [0x00, 0x00, 0x04, 0x00, 0x04],
+        [0x04, 0x00, 0x00, 0x00, 0x00],
+    )
+}
+
+// Opened with a token of age 2 in place 0, with its three zones listed.
+pub fn listing<'a, B: Bound + PartialEq>(
+    rt: &impl Abort,
+    heap: Global,
+    bytes: &'a [u8],
+) -> Result<Line<'a, B>, AllocError> {
+    let mut line = Line::blank(heap, bytes)?;
+    let target = record(heap, &BOTH_IN_1, &[])?;
+    line.gives(rt, Call::Open(&[0], &[2], &target), 0)?;
+    line.gives(rt, Call::Post(&target), 0)?;
+    line.gives(rt, Call::Post(&record(heap, &ONE_EACH, &[])?), 0)?;
+    line.gives(rt, Call::Post(&record(heap, &BOTH_IN_0, &[])?), 0)?;
+    Ok(line)
+}
+
+// The stages after listing.
+fn lead_on<B: Bound + PartialEq>(
+    rt: &impl Abort,
+    line: &mut Line<'_, B>,
+    stage: Stage,
+) -> Result<(), AllocError> {
+    if stage == Stage::Full {
+        let zone = record(line.heap, &BOTH_IN_1, &[])?;
+        for _ in 3..63 {
+            line.gives(rt, Call::Post(&zone), 0)?;
+        }
+    }
+    if stage == Stage::Proving || stage == Stage::Sealed {
+        line.gives(rt, Call::Close, 0)?;
+    }
+    if stage == Stage::Sealed {
+        for voucher in VOUCHERS {
+            line.gives(rt, Call::Discharge(&voucher), 0)?;
+        }
+    }
+    Ok(())
+}
+
+pub fn line_at<'a, B: Bound + PartialEq>(
+    rt: &impl Abort,
+    heap: Global,
+    bytes: &'a [u8],
+    stage: Stage,
+) -> Result<Line<'a, B>, AllocError> {
+    if stage == Stage::Blank {
+        return Line::blank(heap, bytes);
+    }
+    let mut line = listing(rt, heap, bytes)?;
+    lead_on(rt, &mut line, stage)?;
+    Ok(line)
+}

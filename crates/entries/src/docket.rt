@@ -1,5 +1,6 @@
 // The docket header: how many initial tokens and listed zones follow.
 ghost use Rattle.entries.specs.DocketRecords.{header_of, header_spare};
+ghost use Rattle.std.proofs.Common.{arith};
 
 use crate::bits::bits;
 use crate::record::Record;
@@ -13,6 +14,8 @@ pub struct DocketHeader {
 #[tactic(auto, unfolding(crate::specs::DocketRecords::header_of, crate::specs::DocketRecords::header_spare))]
 impl Record for DocketHeader {
     ghost SIZE = { 4 };
+
+    ghost some_bytes = { omega arith };
 
     ghost spare = { header_spare };
 

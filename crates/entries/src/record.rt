@@ -1,11 +1,16 @@
 // Records of one size: fields of bits, and spare bits that are zero.
-ghost use Rattle.entries.specs.Records.{read_as};
-ghost use Rattle.std.specs.Prelude.{◌≡◌, ℕ, Bool, List};
+ghost use Rattle.entries.specs.Records.{placed, read_as};
+ghost use Rattle.records.specs.Parts.{Moved};
+ghost use Rattle.std.specs.Prelude.{◌≡◌, ◌<◌, ℕ, Bool, List, take};
 
-use crate::fault::EntryRefusal;
+use crate::fault::{EntryFault, EntryRefusal};
+use records::fault::Fault;
+use records::reader::{Part, Reader};
 
 pub trait Record: Sized {
     ghost SIZE: { ℕ };
+
+    ghost some_bytes: { 0 < SIZE };
 
     // whether bytes have a spare bit set, and what their fields say
     ghost spare: { List ℕ → Bool };
@@ -31,5 +36,13 @@ pub trait Record: Sized {
             return Err(EntryRefusal::NotZero);
         }
         Ok(Self::fields(bytes))
+    }
+    // The record that comes next. Where it is refused, its fault has its number.
+    final fn next(reader: &mut Reader<'_>) -> Result<Self, EntryFault>
+        ensures answer { result ≡ placed reader.old.next (read_as SIZE spare said (take SIZE reader.old.rest.now)) }
+        ensures moved { Moved SIZE reader.old.rest.now reader.old.next result reader.new.rest.now reader.new.next }
+    {
+        let Part { bytes, at } = reader.part(Self::SIZE)?;
+        Self::read(bytes).map_err(|refusal| Fault { refusal, at })
     }
 }

@@ -1,5 +1,6 @@
 // An initial token: its place and its age.
 ghost use Rattle.entries.specs.DocketRecords.{token_of, token_spare};
+ghost use Rattle.std.proofs.Common.{arith};
 
 use crate::bits::bits;
 use crate::record::Record;
@@ -13,6 +14,8 @@ pub struct InitialToken {
 #[tactic(auto, unfolding(crate::specs::DocketRecords::token_of, crate::specs::DocketRecords::token_spare))]
 impl Record for InitialToken {
     ghost SIZE = { 3 };
+
+    ghost some_bytes = { omega arith };
 
     ghost spare = { token_spare };
 

@@ -1,6 +1,7 @@
 // A voucher: that an item is void, or which listed zone vouches for it and through which partners.
 ghost use Rattle.entries.specs.Vouchers.{partner_at, some_set, unused_set, voucher_of, voucher_spare};
 ghost use Rattle.std.specs.Prelude.{◌≡◌};
+ghost use Rattle.std.proofs.Common.{arith};
 
 use crate::bits::bits;
 use crate::record::Record;
@@ -24,6 +25,8 @@ fn partner(bytes: &[u8], i: u8) -> u8
 #[tactic(auto, unfolding(crate::specs::Vouchers::voucher_of, crate::specs::Vouchers::voucher_spare))]
 impl Record for Voucher {
     ghost SIZE = { 6 };
+
+    ghost some_bytes = { omega arith };
 
     ghost spare = { voucher_spare };
 

@@ -5,7 +5,7 @@ use Rattle.std.proofs.lemmas.Bool.{false≢true, ltb-false, or_parts, and_parts,
 use Rattle.std.specs.List.{find}
 use Rattle.std.specs.Result.{result_unwrap_or}
 use Rattle.records.specs.Bits.{field}
-use Rattle.records.specs.NetBytes.{transition_bytes, has_transition, side_count, side_start, arcs_at, slot_at}
+use Rattle.records.specs.NetBytes.{transition_bytes, has_transition, side_count, side_start, arcs_at, slot_at, net_size}
 use Rattle.records.specs.NetRecords.{in_order, header_of, header_has, at_record, or_else, sized, header_fault, transition_refusal, transition_fault, transitions_fault, net_fault, sound, no_net, transition_record, record_has, counts_have, some_slot_has}
 use Rattle.records.specs.Slots.{slot_of}
 use Rattle.nets.specs.declared.side.Side.{Side}
@@ -139,6 +139,18 @@ module _ (bytes : List ℕ) (clean : sound bytes ≡ true) where
     pub transition_part : {Q : Bor (List ℕ) → Type 0} (part : List ℕ) (r : Option (Bor (List ℕ))) → ((y : Bor (List ℕ)) → Q y → y.now ≡ take 41 part) → part ≡ drop (4 + 41 * (t - 1)) bytes → MatchOption r (length part < 41) Q → MatchOption r (has_transition bytes t ≡ false) (λ y. (has_transition bytes t ≡ true) × (y.now ≡ transition_bytes bytes t))
     transition_part part None first is m = absurd (omega (arith, m, ap length is, length-drop (4 + 41 * (t - 1)) bytes, transition_whole))
     transition_part part (Some y) first is m = (there, first y m ∙ ap (take 41) is)
+
+  -- the net's records are there
+  pub net_whole : net_size (header_of (take 4 bytes)) ≤ length bytes
+  net_whole = by_count (header_of (take 4 bytes)).transitions refl
+    where
+      last : (n l d : ℕ) → 41 * n + 41 ≤ d → d ≡ l - 4 → 4 ≤ l → 4 + 41 * suc n ≤ l
+      last n l d a b c = omega arith
+
+      by_count : (n : ℕ) → (header_of (take 4 bytes)).transitions ≡ n → 4 + 41 * n ≤ length bytes
+      by_count zero e = omega (arith, header_whole)
+      by_count (suc n) e =
+          last n (length bytes) (length (drop 4 bytes)) (transitions_clean (header_of (take 4 bytes)) (header_of (take 4 bytes)).transitions 1 (drop 4 bytes) parts.1 n (omega (arith, e))).0 (length-drop 4 bytes) header_whole
 
 pub no_net_sound : sound no_net ≡ true
 unfolding sound

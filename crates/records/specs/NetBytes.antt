@@ -7,6 +7,7 @@ use Rattle.nets.specs.declared.side.Side.{Side}
 use Rattle.nets.specs.declared.side.Side.TheVariants.{Input, Output}
 use Rattle.records.specs.Slots.{slot_of}
 use Rattle.records.specs.NetRecords.{header_of, transition_record}
+use Rattle.records.specs.declared.header.NetHeader.{NetHeader}
 use Rattle.records.specs.declared.slot.End.{End}
 use Rattle.records.specs.declared.slot.Slot.{Slot}
 use Rattle.records.specs.declared.transition.TransitionRecord.{TransitionRecord}
@@ -38,6 +39,18 @@ transitions_of kind (suc n) bytes = record_transition kind (transition_record (t
 abbrev pub net_of : {B : Type 0} → Kind B → List ℕ → Net B
 net_of kind bytes =
     record { places = (header_of (take 4 bytes)).places; transitions = transitions_of kind (header_of (take 4 bytes)).transitions (drop 4 bytes) }
+
+-- ---- the records after the net's
+-- how many bytes the net records are
+abbrev pub net_size : NetHeader → ℕ
+net_size h = 4 + 41 * h.transitions
+
+abbrev pub later_records : List ℕ → List ℕ
+later_records bytes = drop (net_size (header_of (take 4 bytes))) bytes
+
+-- and the number of the first
+abbrev pub first_later : List ℕ → ℕ
+first_later bytes = 1 + (header_of (take 4 bytes)).transitions
 
 -- ---- what is asked of the bytes
 -- the bytes of a transition, numbered from 1

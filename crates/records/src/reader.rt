@@ -4,8 +4,8 @@ ghost use Rattle.std.specs.Prelude.{◌+◌, ◌^◌, ◌<◌, length};
 // What is left of the bytes, and the number of the record that comes next.
 #[derive(Drop)]
 pub struct Reader<'a> {
-    rest: &'a [u8],
-    next: usize,
+    pub(crate) rest: &'a [u8],
+    pub(crate) next: usize,
     ghost counted: { next + length rest.now < 2 ^ 64 },
 }
 

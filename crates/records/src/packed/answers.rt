@@ -1,12 +1,13 @@
 // What the packed net store answers. Each arc is decoded where it lies.
 ghost use Rattle.std.specs.Prelude.{◌≡◌, ◌+◌, ◌≤◌, true, false, ◌&&◌, take, if◌then◌else◌, MatchOption, MatchResult, Some, nat_le};
-ghost use Rattle.records.specs.NetBytes.{transition_bytes, has_transition, side_count, side_start, arcs_at, slot_at};
+ghost use Rattle.records.specs.NetBytes.{transition_bytes, has_transition, side_count, side_start, arcs_at, slot_at, later_records, first_later};
 ghost use Rattle.records.specs.NetRecords.{sound, no_net, net_fault, header_of, transition_record};
 
 use crate::fault::NetFault;
 use crate::header::{NetHeader, NetKind};
 use crate::net::check_net;
 use crate::packed::PackedNet;
+use crate::reader::Reader;
 use crate::slot::Slot;
 use crate::transition::{TransitionRecord, side_count};
 use nets::Side;
@@ -60,6 +61,18 @@ impl<'a> PackedNet<'a> {
         ensures { result ≡ header_of (take 4 self.now.bytes.now) }
     {
         self.header
+    }
+
+    // A reader of the records that follow the net's.
+    pub fn later_records(&self) -> Reader<'a>
+        ensures rest { result.rest.now ≡ later_records self.now.bytes.now }
+        ensures next { result.next ≡ first_later self.now.bytes.now }
+    {
+        let transitions = usize::from(self.header.transitions);
+        Reader {
+            rest: &self.bytes[NetHeader::SIZE + TransitionRecord::SIZE * transitions..],
+            next: 1 + transitions,
+        }
     }
 
     // The bytes of a transition, if there is one of this number.

@@ -1,5 +1,5 @@
 // How a reader begins and goes on.
-ghost use Rattle.std.specs.Prelude.{◌≡◌, ◌+◌};
+ghost use Rattle.std.specs.Prelude.{◌≡◌, ◌+◌, ◌==◌, length};
 ghost use Rattle.records.specs.Parts.{Parted};
 
 use crate::fault::Missing;
@@ -14,6 +14,20 @@ impl<'a> Reader<'a> {
             rest: bytes,
             next: 0,
         }
+    }
+
+    // Whether no byte is left.
+    pub fn is_empty(&self) -> bool
+        ensures { result ≡ (length self.now.rest.now == 0) }
+    {
+        self.rest.is_empty()
+    }
+
+    // The number of the record that comes next.
+    pub fn number(&self) -> usize
+        ensures { result ≡ self.now.next }
+    {
+        self.next
     }
 
     // The next record, of this many bytes and at least one. Where they are not there, nothing moves.

@@ -1,0 +1,5 @@
+pub mod FileRefusals
+pub mod LineTexts
+pub mod Asks
+pub mod Reports
+pub mod Truth

@@ -1,4 +1,5 @@
 -- The lemmas that more than one proof of this crate cites.
-pub mod Saying
+pub mod Marking
+pub mod Telling
 pub mod Texts
 pub mod Walks

@@ -1,60 +1,53 @@
 // The docket header and the initial tokens, read and told record by record.
 ghost use Rattle.records.specs.Parts.{Moved};
-ghost use Rattle.entries.specs.Records.{read_as};
-ghost use Rattle.std.specs.Prelude.{◌<◌, take, string_bytes};
-ghost use Rattle.docket_words.specs.Ends.{Stepped, SteppedBy};
-ghost use Rattle.docket_words.specs.Initial.{placed, head_line, initial_line};
-ghost use Rattle.docket_words.specs.Written.{TokensTold};
+ghost use Rattle.std.specs.Prelude.{◌≤◌, take, string_bytes};
+ghost use Rattle.docket_words.specs.Ends.{Stepped};
+ghost use Rattle.docket_words.specs.Files.{Waits};
+ghost use Rattle.docket_words.specs.Initial.{head_line, initial_line, TokensTold};
 ghost use Rattle.entries.specs.DocketRecords.{docket_header, initial_token};
+ghost use Rattle.filing.specs.Steps.{read_at};
 
 use crate::head::{HeaderWords, TokenWords};
-use crate::teller::{Ended, Teller, read_next};
+use crate::teller::{Ended, Teller};
+use bounds::Bound;
 use entries::docket::DocketHeader;
-use entries::record::Record;
 use entries::token::InitialToken;
-use std::fmt;
+use filing::InitialLists;
 
-impl<'a, 'c, B> Teller<'a, 'c, B> {
-    // The next record of a kind, told in a line of its words.
-    fn tell<R: Record + Copy, W: fmt::Display + Copy, F: FnOnce(R) -> W>(
-        &mut self,
-        words: F,
-    ) -> Result<R, Ended>
-        requires size { 0 < R.SIZE }
-        requires callable { F.IsAlwaysCallable words }
-        ensures text { SteppedBy (placed self.old.reader.next (read_as R.SIZE R.spare R.said (take R.SIZE self.old.reader.rest.now))) (F.post words) W.output (string_bytes self.old.text) (string_bytes self.new.text) result }
-        ensures moved { Moved R.SIZE self.old.reader.rest.now self.old.reader.next result self.new.reader.rest.now self.new.reader.next }
-    {
-        let read = read_next::<R>(&mut self.reader)?;
-        let words = words(read);
-        writeln!(self.text, "{words}")?;
-        Ok(read)
-    }
-
+impl<'a, 'm, B: Bound> Teller<'a, 'm, B> {
     pub(crate) fn header(&mut self) -> Result<DocketHeader, Ended>
-        ensures text { Stepped (placed self.old.reader.next (docket_header (take 4 self.old.reader.rest.now))) head_line (string_bytes self.old.text) (string_bytes self.new.text) result }
-        ensures moved { Moved 4 self.old.reader.rest.now self.old.reader.next result self.new.reader.rest.now self.new.reader.next }
+        ensures text { Stepped (read_at self.old.file.reader.next (docket_header (take 4 self.old.file.reader.rest.now))) head_line (string_bytes self.old.text) (string_bytes self.new.text) result }
+        ensures moved { Moved 4 self.old.file.reader.rest.now self.old.file.reader.next result self.new.file.reader.rest.now self.new.file.reader.next }
+        ensures waits { Waits self.old.file self.new.file }
     {
-        self.tell(HeaderWords)
+        let header = self.file.header()?;
+        let words = HeaderWords(header);
+        writeln!(self.text, "{words}")?;
+        Ok(header)
     }
 
     fn token(&mut self, number: u8) -> Result<InitialToken, Ended>
-        ensures text { Stepped (placed self.old.reader.next (initial_token (take 3 self.old.reader.rest.now))) (initial_line number) (string_bytes self.old.text) (string_bytes self.new.text) result }
-        ensures moved { Moved 3 self.old.reader.rest.now self.old.reader.next result self.new.reader.rest.now self.new.reader.next }
+        ensures text { Stepped (read_at self.old.file.reader.next (initial_token (take 3 self.old.file.reader.rest.now))) (initial_line number) (string_bytes self.old.text) (string_bytes self.new.text) result }
+        ensures moved { Moved 3 self.old.file.reader.rest.now self.old.file.reader.next result self.new.file.reader.rest.now self.new.file.reader.next }
+        ensures waits { Waits self.old.file self.new.file }
     {
-        self.tell(|token| TokenWords { number, token })
+        let token = self.file.token()?;
+        let words = TokenWords { number, token };
+        writeln!(self.text, "{words}")?;
+        Ok(token)
     }
 
-    // The tokens line by line, and whether the place of one is not in the net: a `bool`, as such a place ends nothing. The tokens after it
-    // are told too, and too many of them is the refusal that counts first.
-    pub(crate) fn tokens(&mut self, count: u8, places: u8) -> Result<bool, Ended>
-        ensures { TokensTold places count self.old.reader.next self.old.reader.rest.now (string_bytes self.old.text) (string_bytes self.new.text) self.new.reader.next self.new.reader.rest.now result }
+    // The tokens line by line, and the two lists of them. What is wrong with the marking that they are, open answers.
+    pub(crate) fn tokens(&mut self, count: u8) -> Result<InitialLists, Ended>
+        requires { count ≤ 15 }
+        ensures told { TokensTold count self.old.file.reader.next self.old.file.reader.rest.now (string_bytes self.old.text) (string_bytes self.new.text) self.new.file.reader.next self.new.file.reader.rest.now result }
+        ensures waits { Waits self.old.file self.new.file }
     {
-        let mut outside = false;
-        for number in 1..=count {
-            let token = self.token(number)?;
-            outside |= places <= token.place;
+        let mut lists = InitialLists::new();
+        for at in 0..count {
+            let token = self.token(at + 1)?;
+            lists.add(token);
         }
-        Ok(outside)
+        Ok(lists)
     }
 }

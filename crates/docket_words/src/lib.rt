@@ -1,14 +1,18 @@
-// The docket part of a file in words for a person: its header, the initial tokens, the target and the listed zones.
+// The docket part of a file in words for a person: its header, the initial tokens, the target and the listed zones, the vouchers, and
+// the line that the file comes to.
 #![tactic(auto)]
 
 pub mod bound;
-pub mod docket;
+mod calls;
 pub mod head;
 mod initial;
-mod listed;
+pub mod item;
+pub mod line;
 pub mod numbered;
 pub mod table;
 mod teller;
+pub mod voucher;
+pub mod whole;
 pub mod zone;
 
-pub use docket::explain_file;
+pub use whole::explain_file;

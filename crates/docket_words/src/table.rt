@@ -1,11 +1,11 @@
 // The bounds of a zone as a table: a row limits the age of its point less the age of each point.
-ghost use Rattle.cells.specs.Cells.{in_draft};
+ghost use Rattle.cells.specs.Cells.{in_page};
 ghost use Rattle.docket_words.specs.Tables.{column_text, cell_text, row_text, table_text};
-ghost use Rattle.std.specs.Prelude.{◌≡◌, ◌++◌, Some, string_bytes, OnOk};
+ghost use Rattle.std.specs.Prelude.{◌≡◌, ◌+◌, ◌++◌, Some, string_bytes, OnOk};
 
 use crate::bound::BoundWords;
 use crate::numbered::Numbered;
-use pages::draft::bound_at;
+use books::Page;
 use std::alloc::AllocError;
 use std::fmt;
 
@@ -29,42 +29,44 @@ impl fmt::Display for Column {
 // Cells, rows and the table are no `Display`: a kind writes its bounds to a `String` alone.
 fn write_cell<B: BoundWords>(
     text: &mut String,
-    cells: &[B],
+    page: &Page<'_, '_, B>,
     row: u8,
     column: u8,
 ) -> Result<(), AllocError>
-    ensures { OnOk result (string_bytes text.new ≡ string_bytes text.old ++ cell_text B.BoundWords.words (in_draft B.Bound.kind cells.now) row column) }
+    ensures { OnOk result (string_bytes text.new ≡ string_bytes text.old ++ cell_text B.BoundWords.words (in_page B.Bound.kind page.now.cells.now) row column) }
 {
     let point = Column(column);
     write!(text, "{point}")?;
-    bound_at(cells, row, column).write_words(text)
+    page.bound(row, column).write_words(text)
 }
 
 fn write_row<B: BoundWords>(
     text: &mut String,
-    cells: &[B],
-    points: u8,
+    page: &Page<'_, '_, B>,
+    tokens: u8,
     row: u8,
 ) -> Result<(), AllocError>
-    ensures { OnOk result (string_bytes text.new ≡ string_bytes text.old ++ row_text B.BoundWords.words (in_draft B.Bound.kind cells.now) points row) }
+    ensures { OnOk result (string_bytes text.new ≡ string_bytes text.old ++ row_text B.BoundWords.words (in_page B.Bound.kind page.now.cells.now) (tokens + 1) row) }
 {
     let point = Numbered::point(row);
     write!(text, "  {point} less:")?;
-    for column in 0..points {
-        write_cell(text, cells, row, column)?;
+    for column in 0..tokens {
+        write_cell(text, page, row, column)?;
     }
+    // the last one by itself, as so many tokens have one point more
+    write_cell(text, page, row, tokens)?;
     writeln!(text)
 }
 
 pub fn write_table<B: BoundWords>(
     text: &mut String,
-    cells: &[B],
-    points: u8,
+    page: &Page<'_, '_, B>,
+    tokens: u8,
 ) -> Result<(), AllocError>
-    ensures { OnOk result (string_bytes text.new ≡ string_bytes text.old ++ table_text B.BoundWords.words (in_draft B.Bound.kind cells.now) points) }
+    ensures { OnOk result (string_bytes text.new ≡ string_bytes text.old ++ table_text B.BoundWords.words (in_page B.Bound.kind page.now.cells.now) (tokens + 1)) }
 {
-    for row in 0..points {
-        write_row(text, cells, points, row)?;
+    for row in 0..tokens {
+        write_row(text, page, tokens, row)?;
     }
-    Ok(())
+    write_row(text, page, tokens, tokens)
 }

@@ -1,22 +1,26 @@
 // A zone in words: its tokens with their places, and the table of its bounds.
-ghost use Rattle.std.specs.Prelude.{◌≡◌, ◌++◌, Some, string_bytes, OnOk};
-ghost use Rattle.cells.specs.Cells.{in_draft};
+ghost use Rattle.std.specs.Prelude.{◌≡◌, ◌<◌, ◌++◌, Some, string_bytes, length, OnOk};
+ghost use Rattle.cells.specs.Cells.{in_page};
+ghost use Rattle.docket.specs.Dockets.{world_of};
+ghost use Rattle.docket_words.specs.Told.{page_text};
 ghost use Rattle.docket_words.specs.Zones.{places_text, zone_text};
+ghost use Rattle.seals.specs.Worlds.{listed_count};
 
 use crate::bound::BoundWords;
 use crate::numbered::Numbered;
 use crate::table::write_table;
+use books::Page;
 use explaining::Counted;
-use pages::tokens::Tokens;
+use filing::DocketFile;
 use std::alloc::AllocError;
 use std::fmt;
 
 // A line for each token.
 #[derive(Clone, Copy)]
-struct Places<'a>(&'a Tokens);
+struct Places<'a>(&'a [u8]);
 
 impl<'a> fmt::Display for Places<'a> {
-    ghost output = { λ p. Some (places_text p.0.now.items) };
+    ghost output = { λ p. Some (places_text p.0.now) };
 
     fn fmt<W: fmt::Write>(&self, f: &mut fmt::Formatter<W>) -> fmt::Result {
         for (t, place) in self.0.iter().enumerate() {
@@ -27,22 +31,33 @@ impl<'a> fmt::Display for Places<'a> {
     }
 }
 
-// The zone of these tokens whose bounds stand in the cells of a draft. No `Display`, as its table is none.
-pub fn write_zone<B: BoundWords>(
+// The zone of a page. No `Display`, as its table is none.
+fn write_zone<B: BoundWords>(
     text: &mut String,
     number: u8,
-    tokens: &Tokens,
-    cells: &[B],
+    page: &Page<'_, '_, B>,
 ) -> Result<(), AllocError>
-    ensures { OnOk result (string_bytes text.new ≡ string_bytes text.old ++ zone_text B.BoundWords.words number tokens.now.items (in_draft B.Bound.kind cells.now)) }
+    requires { length page.now.places.now < 256 }
+    ensures { OnOk result (string_bytes text.new ≡ string_bytes text.old ++ zone_text B.BoundWords.words number page.now.places.now (in_page B.Bound.kind page.now.cells.now)) }
 {
     let name = Numbered::zone(number);
-    let count = tokens.len() as u8;
+    let count = page.places.len() as u8;
     let counted = Counted {
         count,
         name: "token",
     };
-    let places = Places(tokens);
+    let places = Places(page.places);
     write!(text, "{name}: {counted}\n{places}")?;
-    write_table(text, cells, count + 1)
+    write_table(text, page, count)
+}
+
+// The zone that the docket of the file took last.
+pub(crate) fn write_last<B: BoundWords>(
+    text: &mut String,
+    file: &DocketFile<'_, '_, B>,
+) -> Result<(), AllocError>
+    ensures { OnOk result (string_bytes text.new ≡ string_bytes text.old ++ (let w = world_of file.now.docket file.now.cells.now file.now.places.now in page_text B.Bound.kind B.BoundWords.words w (listed_count w.state))) }
+{
+    let number = file.listed();
+    write_zone(text, number, &file.page(number))
 }

@@ -81,7 +81,7 @@ module _ {B : Type 0} (kind : Kind B) (words : B → List ℕ) (net : Net B) (w 
   short_told at middle fault same is = ap (λ t. t ++ refusal_line fault) same ∙ ap (λ f. before ++ refusal_line f) is
 
   pub record_refused : (short : Bool) (at : ℕ) (call : Answer → Call B) (middle : List ℕ) (fault : FileFault) → ((r : CallRefusal) → call_text kind words w v (call (Err r)) ≡ []) → middle ≡ before → Made kind net w (cond short (Refuse at WrongLength) (Make at call)) v (Err fault) → CallsTold kind words net w (cond short (Refuse at WrongLength) (Make at call) ∷ later) before (middle ++ refusal_line fault)
-  record_refused true at call middle fault still same made = short_told at middle fault same made
+  record_refused true at call middle fault still same made = short_told at middle fault same made.0
   record_refused false at call middle fault still same made = call_refused at call middle fault (λ r. quiet _ middle (still r) same) made
 
   -- ---- a voucher, whose record was taken off the rest first

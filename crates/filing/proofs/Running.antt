@@ -38,7 +38,7 @@ module _ {B : Type 0} (kind : Kind B) (net : Net B) where
   made_on w v (Make at call) later line step runs = (Ok tt, v, step, runs)
 
   pub made_out : (w v : World B) (ask : Ask B) (later : List (Ask B)) (fault : FileFault) → Made kind net w ask v (Err fault) → Runs kind net w (ask ∷ later) (Refused fault)
-  made_out w v (Refuse at refusal) later fault is = ap Refused is
+  made_out w v (Refuse at refusal) later fault is = ap Refused is.0
   made_out w v (Make at call) later fault (r, step, is) = (Err r, v, step, ap Refused is)
 
   pub read_out : {X : Type 0} (w : World B) (at : ℕ) (r : Result X EntryRefusal) (later : List (Ask B)) (fault : FileFault) → Err fault ≡ read_at at r → Runs kind net w (refused_at at r ++ later) (Refused fault)

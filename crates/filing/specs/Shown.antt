@@ -6,9 +6,9 @@ use Rattle.refusals.specs.declared.refusal.CallRefusal.TheVariants.{Entry}
 use Rattle.reports.specs.declared.fault.FileFault.{FileFault}
 use Rattle.reports.specs.declared.fault.FileRefusal.TheVariants.{Call as InCall}
 
--- a record of this size with its number, or that it is cut short
+-- a record of this size with its number, or that it is cut short, and then nothing moves
 abbrev pub Taken : (size next : ℕ) → (rest : List ℕ) → Result Part FileFault → (after : ℕ) → (left : List ℕ) → Type 0
 Taken size next rest (Ok part) after left =
     (size ≤ length rest) × (part.bytes.now ≡ take size rest) × (part.at ≡ next) × (after ≡ next + 1) × (left ≡ drop size rest)
 Taken size next rest (Err fault) after left =
-    (length rest < size) × (fault ≡ record { refusal = InCall (Entry WrongLength); at = next })
+    (length rest < size) × (fault ≡ record { refusal = InCall (Entry WrongLength); at = next }) × (after ≡ next) × (left ≡ rest)

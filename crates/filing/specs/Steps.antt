@@ -29,7 +29,7 @@ read_at at (Err refusal) = Err (record { refusal = InCall (Entry refusal); at = 
 -- the call that a record asks for is made, or the record is refused before it
 abbrev pub Made : {B : Type 0} → Kind B → Net B → World B → Ask B → World B → Result (Unit {0}) FileFault → Type 0
 Made kind net w (Refuse at refusal) v (Ok u) = ⊥
-Made kind net w (Refuse at refusal) v (Err fault) = fault ≡ record { refusal = InCall (Entry refusal); at = at }
+Made kind net w (Refuse at refusal) v (Err fault) = (fault ≡ record { refusal = InCall (Entry refusal); at = at }) × (v ≡ w)
 Made kind net w (Make at call) v (Ok u) = Step kind net w (call (Ok tt)) v
 Made kind net w (Make at call) v (Err fault) = (r : CallRefusal) × Step kind net w (call (Err r)) v × (fault ≡ record { refusal = InCall r; at = at })
 

@@ -14,6 +14,7 @@ use records::packed::PackedNet;
 use records::reader::Reader;
 use reports::Line;
 
+// After an error a file is not read on: docket and book are then as before, and of the reader nothing is said.
 // Slices, as of a field that is an array of any kind's bounds it is not proved that its bytes are fewer than 2^63.
 #[derive(Drop)]
 pub struct DocketFile<'a, 'm, B: Bound> {

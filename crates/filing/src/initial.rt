@@ -1,5 +1,5 @@
 // The two lists of initial places and ages that open is given.
-ghost use Rattle.std.specs.Prelude.{◌≡◌, ◌<◌, ◌++◌, [], ◌∷◌, length};
+ghost use Rattle.std.specs.Prelude.{◌≡◌, ◌<◌, ◌≤◌, ◌++◌, [], ◌∷◌, length};
 
 use arrayvec::ArrayVec;
 use entries::token::InitialToken;
@@ -26,6 +26,8 @@ impl InitialLists {
     pub fn add(&mut self, token: InitialToken)
         ensures places { length self.old.places.items < 15 → self.new.places.items ≡ self.old.places.items ++ (token.place ∷ []) }
         ensures ages { length self.old.ages.items < 15 → self.new.ages.items ≡ self.old.ages.items ++ (token.age ∷ []) }
+        ensures full_places { 15 ≤ length self.old.places.items → self.new.places.items ≡ self.old.places.items }
+        ensures full_ages { 15 ≤ length self.old.ages.items → self.new.ages.items ≡ self.old.ages.items }
     {
         let _ = self.places.try_push(token.place);
         let _ = self.ages.try_push(token.age);

@@ -81,8 +81,8 @@ module _ {B : Type 0} (coding : Coding B) where
       ∙ of-capped coding.of (nat_le (unsigned_abs (c +ℤ d)) largest_size) (number (c +ℤ d) (s || t)) unlimited
 
   -- the kind that the values make
-  abbrev pub kind_of : Kind B
-  kind_of =
+  abbrev pub coded_kind : Kind B
+  coded_kind =
       record {
         zero = coding.of (number (pos 0) false);
         no_limit = coding.of unlimited;

@@ -4,7 +4,7 @@ use Rattle.std.specs.Prelude.{◌≡◌, true, Some, None, Option, refl}
 use Rattle.bounds.specs.Kinds.{Kind}
 use Rattle.bounds.specs.Limits.{Limit}
 use Rattle.bounds.specs.Limits.Limit.{number, unlimited}
-use Rattle.bounds.specs.Codings.{Coding, Held, kind_of}
+use Rattle.bounds.specs.Codings.{Coding, Held, coded_kind}
 use Rattle.bounds.specs.declared.marked.MarkedNumber.{MarkedNumber}
 use Rattle.bounds.specs.declared.marked.MarkedBound.{MarkedBound}
 
@@ -36,4 +36,4 @@ marked_coding =
     }
 
 abbrev pub marked_kind : Kind MarkedBound
-marked_kind = kind_of marked_coding
+marked_kind = coded_kind marked_coding

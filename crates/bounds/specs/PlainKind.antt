@@ -5,7 +5,7 @@ use Rattle.std.proofs.lemmas.Bool.{false≢true}
 use Rattle.bounds.specs.Kinds.{Kind}
 use Rattle.bounds.specs.Limits.{Limit, limit_strict}
 use Rattle.bounds.specs.Limits.Limit.{number, unlimited}
-use Rattle.bounds.specs.Codings.{Held, kind_of}
+use Rattle.bounds.specs.Codings.{Held, coded_kind}
 use Rattle.bounds.specs.declared.plain.PlainBound.{PlainBound}
 
 abbrev pub plain_limit : Option ℤ → Limit
@@ -19,7 +19,7 @@ plain_of unlimited = None
 -- its facts are shown within it, so that an edit of what plain bounds mean is refused for its meaning
 abbrev pub plain_kind : Kind PlainBound
 plain_kind =
-    kind_of (record {
+    coded_kind (record {
       marks = false;
       view = λ b. plain_limit b.limit;
       of = λ l. record { limit = plain_of l };

@@ -3,12 +3,12 @@ use Rattle.std.proofs.Common.{◌≡◌, ℕ, Bool, true, false, cond, ◌||◌,
 use Rattle.std.proofs.lemmas.Bool.{false≢true}
 use Rattle.std.specs.List.{list_any}
 use Rattle.arrayvec.specs.ArrayVec.{ArrayVec}
-use Rattle.entries.specs.declared.fault.EntryRefusal.{EntryRefusal}
-use Rattle.entries.specs.declared.fault.EntryRefusal.TheVariants.{TooMany, NoSuchPlace}
-use Rattle.entries.specs.declared.token.InitialToken.{InitialToken}
-use Rattle.refusals.specs.declared.refusal.CallRefusal.TheVariants.{Entry}
-use Rattle.seals.specs.Calls.{initial_tokens}
-use Rattle.seals.specs.Tables.{Answer, Answers, Row, initial_rows, row, too_old}
+use Rattle.docket_records.specs.declared.fault.EntryRefusal.{EntryRefusal}
+use Rattle.docket_records.specs.declared.fault.EntryRefusal.TheVariants.{TooMany, NoSuchPlace}
+use Rattle.docket_records.specs.declared.token.InitialToken.{InitialToken}
+use Rattle.docket_refusals.specs.declared.refusal.CallRefusal.TheVariants.{Entry}
+use Rattle.docket_rules.specs.Calls.{initial_tokens}
+use Rattle.docket_rules.specs.Tables.{Answer, Answers, Row, initial_rows, row, too_old}
 use Rattle.docket.specs.Gathered.{gathered}
 
 abbrev two_rows : (many outside : Bool) (rest : List Row) → List Row

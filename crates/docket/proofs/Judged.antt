@@ -2,25 +2,25 @@
 use Rattle.std.proofs.Common.{◌≡◌, ℕ, zero, suc, Bool, true, false, cond, leb, List, [], ◌∷◌, is_err, Ok, Err, Some, None, Option, sym, refl, ap, ◌∙◌, subst, inl, inr, arith}
 use Rattle.std.proofs.lemmas.Bool.{and_parts, both_ways, leb-true, true≢false}
 use Rattle.arrayvec.specs.ArrayVec.{ArrayVec}
-use Rattle.books.specs.Objections.{objection_number, objection_of}
-use Rattle.books.specs.declared.objections.Objection.{Objection}
-use Rattle.books.specs.declared.objections.Objection.TheVariants.{Partner, Place, Bound}
+use Rattle.zone_pages.specs.Objections.{objection_number, objection_of}
+use Rattle.zone_pages.specs.declared.objections.Objection.{Objection}
+use Rattle.zone_pages.specs.declared.objections.Objection.TheVariants.{Partner, Place, Bound}
 use Rattle.bounds.specs.Kinds.{Kind}
-use Rattle.cells.specs.Drafts.{draft_zone}
+use Rattle.zone_cells.specs.Drafts.{draft_zone}
 use Rattle.docket.specs.Discharging.{judged, objected}
 use Rattle.docket.proofs.Named.{as_many, itself, page_named}
 use Rattle.docket.proofs.Objected.{Tried, same_objection, unobjected}
-use Rattle.dues.specs.Answered.{Answered, ItemZone, SameZone, VoidItem, zone_named}
-use Rattle.dues.specs.declared.due.Due.{Due}
-use Rattle.dues.proofs.Answered.{void_answered, vouched_answered}
-use Rattle.entries.specs.declared.voucher.Voucher.{Voucher}
-use Rattle.items.specs.Made.{ItemAnswer}
+use Rattle.docket_dues.specs.Answered.{Answered, ItemZone, SameZone, VoidItem, zone_named}
+use Rattle.docket_dues.specs.declared.item.Item.{Item}
+use Rattle.docket_dues.proofs.Answered.{void_answered, vouched_answered}
+use Rattle.docket_records.specs.declared.voucher.Voucher.{Voucher}
+use Rattle.docket_items.specs.Made.{ItemAnswer}
 use Rattle.nets.specs.Nets.{Net}
-use Rattle.refusals.specs.declared.refusal.CallRefusal.TheVariants.{NotVoid, VoidItem as IsVoid, NoSuchZone, Objected}
-use Rattle.seals.specs.Calls.{is_early}
-use Rattle.seals.specs.Tables.{Against, Answer, Answers, Asks, IsVoidItem, Row, item_rows, pairing_of, row}
-use Rattle.seals.specs.Worlds.{World, in_list, listed_count, listed_pages, page_of}
-use Rattle.seals.proofs.KeptAsked.{one_asked}
+use Rattle.docket_refusals.specs.declared.refusal.CallRefusal.TheVariants.{NotVoid, VoidItem as IsVoid, NoSuchZone, Objected}
+use Rattle.docket_rules.specs.Calls.{is_early}
+use Rattle.docket_rules.specs.Tables.{Against, Answer, Answers, Asks, IsVoidItem, Row, item_rows, pairing_of, row}
+use Rattle.docket_rules.specs.Worlds.{World, in_list, listed_count, listed_pages, page_of}
+use Rattle.docket_rules.proofs.KeptAsked.{one_asked}
 use Rattle.zones.specs.Zones.{Zone}
 
 -- ---- answers
@@ -58,7 +58,7 @@ not_void kind net target listed zero t n asked asks void = void
 not_void kind net target listed (suc z) zero n asked asks void = void
 not_void kind net target listed (suc z) (suc t) n asked asks void = asks.possible void
 
-module _ {B : Type 0} (kind : Kind B) (net : Net B) (w : World B) (d : Due) (v : Voucher) where
+module _ {B : Type 0} (kind : Kind B) (net : Net B) (w : World B) (d : Item) (v : Voucher) where
   -- ---- a void item
   void_answers : IsVoidItem kind net w d → (void : Bool) → v.void ≡ void → Answers (item_rows kind net w d v) (cond void (Ok tt) (Err IsVoid))
   void_answers is_void true is =

@@ -4,15 +4,15 @@ use Rattle.std.proofs.lemmas.Bool.{cases_lt}
 use Rattle.std.proofs.lemmas.List.{get_or-map, get_or_past, length-map}
 use Rattle.std.proofs.lemmas.List.FromFn.{get_or-map-range_with_len, length-map-range_with_len}
 use Rattle.bounds.specs.Kinds.{Kind}
-use Rattle.dues.specs.Answered.{SameZone, places_of_all, zone_named}
-use Rattle.dues.specs.DueLaws.{CanBeDue, IsDue}
-use Rattle.dues.specs.declared.due.Due.{Due}
-use Rattle.items.specs.Made.{Holds}
+use Rattle.docket_dues.specs.Answered.{SameZone, places_of_all, zone_named}
+use Rattle.docket_dues.specs.DueLaws.{CanBeDue, IsDue}
+use Rattle.docket_dues.specs.declared.item.Item.{Item}
+use Rattle.docket_items.specs.Made.{PageHolds}
 use Rattle.nets.specs.Nets.{Net, numbered}
-use Rattle.seals.specs.Calls.{Sound}
-use Rattle.seals.specs.Tables.{due_in, is_proving}
-use Rattle.seals.specs.Worlds.{World, listed_count, listed_pages, page_cells, page_of, page_places}
-use Rattle.seals.specs.declared.stage.Stage.TheVariants.{Proving}
+use Rattle.docket_rules.specs.Calls.{Sound}
+use Rattle.docket_rules.specs.Tables.{due_in, is_proving}
+use Rattle.docket_rules.specs.Worlds.{World, listed_count, listed_pages, page_cells, page_of, page_places}
+use Rattle.docket_rules.specs.declared.stage.Stage.TheVariants.{Proving}
 use Rattle.zones.specs.Zones.{Zone}
 
 pub itself : {B : Type 0} (z : Zone B) → SameZone z z
@@ -52,16 +52,16 @@ module _ {B : Type 0} (kind : Kind B) (w : World B) where
       (cases_lt p (listed_count w.state))
 
   -- ---- the page of the item that is due
-  module _ (net : Net B) (d : Due) (sound : Sound kind net w) (proving : w.state.stage ≡ Proving d) where
+  module _ (net : Net B) (d : Item) (sound : Sound kind net w) (proving : w.state.stage ≡ Proving d) where
     pub item_due : IsDue net (places_of_all (listed_pages kind w)) d
     item_due = subst (λ s. IsDue net (places_of_all listed) (due_in s)) proving sound.due
 
     item_inside : d.zone ≤ listed_count w.state
     item_inside = omega (arith, due_inside net (places_of_all listed) d.zone d.transition d.matching item_due, length-map listed (λ z. z.places), as_many)
 
-    pub item_held : Holds kind (zone_named (page_of kind w 0) (listed_pages kind w) d.zone) (page_places w d.zone) (page_cells w d.zone)
+    pub item_held : PageHolds kind (zone_named (page_of kind w 0) (listed_pages kind w) d.zone) (page_places w d.zone) (page_cells w d.zone)
     item_held =
         let page = page_of kind w d.zone in
         let formed = sound.pages d.zone (omega (arith, item_inside, sound.opened (ap is_proving proving))) in
-        let held : Holds kind page (page_places w d.zone) (page_cells w d.zone) = record { same = itself page; few = formed.few; normal = formed.normal; small = formed.small } in
-        subst (λ z. Holds kind z (page_places w d.zone) (page_cells w d.zone)) (sym (page_named d.zone item_inside)) held
+        let held : PageHolds kind page (page_places w d.zone) (page_cells w d.zone) = record { same = itself page; few = formed.few; normal = formed.normal; small = formed.small } in
+        subst (λ z. PageHolds kind z (page_places w d.zone) (page_cells w d.zone)) (sym (page_named d.zone item_inside)) held

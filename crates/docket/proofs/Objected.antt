@@ -2,16 +2,16 @@
 -- Assumes nothing.
 use Rattle.std.proofs.Common.{◌≡◌, ℕ, Bool, true, false, cond, List, Ok, Err, Result, sym, refl, ap, ◌∙◌}
 use Rattle.std.proofs.lemmas.Bool.{true≢false}
-use Rattle.books.proofs.Means.{means}
-use Rattle.books.specs.Objections.{objection_of}
-use Rattle.books.specs.declared.objections.Objection.{Objection}
-use Rattle.books.specs.declared.objections.Objection.TheVariants.{Partner, Place, Bound}
+use Rattle.zone_pages.proofs.Means.{means}
+use Rattle.zone_pages.specs.Objections.{objection_of}
+use Rattle.zone_pages.specs.declared.objections.Objection.{Objection}
+use Rattle.zone_pages.specs.declared.objections.Objection.TheVariants.{Partner, Place, Bound}
 use Rattle.bounds.specs.Kinds.{Kind}
-use Rattle.cells.specs.Objections.{bound_exceeds, partners_unsound, places_differ}
-use Rattle.cells.proofs.Objections.{none_lacks, vouches_from}
-use Rattle.dues.specs.Answered.{SameZone}
-use Rattle.dues.proofs.Same.{vouches_same}
-use Rattle.walks.specs.Walks.{Matrix}
+use Rattle.zone_cells.specs.Objections.{bound_exceeds, partners_unsound, places_differ}
+use Rattle.zone_cells.proofs.Objections.{none_lacks, vouches_from}
+use Rattle.docket_dues.specs.Answered.{SameZone}
+use Rattle.docket_dues.proofs.Same.{vouches_same}
+use Rattle.zone_walks.specs.Walks.{Matrix}
 use Rattle.zones.specs.Vouching.{Vouches}
 use Rattle.zones.specs.Zones.{Zone}
 

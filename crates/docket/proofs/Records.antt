@@ -3,18 +3,18 @@ use Rattle.std.proofs.Common.{◌≡◌, ℕ, Bool, true, false, cond, List, ◌
 use Rattle.std.proofs.lemmas.Bool.{false≢true}
 use Rattle.arrayvec.specs.ArrayVec.{ArrayVec}
 use Rattle.bounds.specs.Kinds.{Kind}
-use Rattle.cells.specs.Drafts.{draft_zone}
-use Rattle.cells.specs.Loading.{Formed}
-use Rattle.entries.specs.ZoneRecords.{mark_under_plain, no_such_place, not_zero, too_many, wrong_length, zone_fault, zone_of}
-use Rattle.entries.specs.declared.fault.EntryRefusal.{EntryRefusal}
-use Rattle.entries.specs.declared.fault.EntryRefusal.TheVariants.{WrongLength, NotZero, TooMany, NoSuchPlace, MarkUnderPlain, Inconsistent as NotConsistent}
-use Rattle.entries.proofs.Sizes.{zone_small}
+use Rattle.zone_cells.specs.Drafts.{draft_zone}
+use Rattle.zone_cells.specs.Loading.{DraftFormed}
+use Rattle.docket_records.specs.ZoneRecords.{mark_under_plain, no_such_place, not_zero, too_many, wrong_length, zone_fault, zone_of}
+use Rattle.docket_records.specs.declared.fault.EntryRefusal.{EntryRefusal}
+use Rattle.docket_records.specs.declared.fault.EntryRefusal.TheVariants.{WrongLength, NotZero, TooMany, NoSuchPlace, MarkUnderPlain, Inconsistent as NotConsistent}
+use Rattle.docket_records.proofs.Sizes.{zone_small}
 use Rattle.nets.specs.Markings.{Marking}
-use Rattle.reading.specs.Readings.{Read}
-use Rattle.refusals.specs.declared.refusal.CallRefusal.TheVariants.{Entry}
-use Rattle.seals.specs.Calls.{PageFormed, PageWritten, cells_of, places_of, with_page}
-use Rattle.seals.specs.Tables.{Answer, Answers, Row, record_rows, row}
-use Rattle.seals.specs.Worlds.{World}
+use Rattle.zone_reading.specs.Readings.{Read}
+use Rattle.docket_refusals.specs.declared.refusal.CallRefusal.TheVariants.{Entry}
+use Rattle.docket_rules.specs.Calls.{PageFormed, PageWritten, cells_of, page_places_of, with_page}
+use Rattle.docket_rules.specs.Tables.{Answer, Answers, Row, record_rows, row}
+use Rattle.docket_rules.specs.Worlds.{World}
 use Rattle.zones.proofs.ZoneLaws.{zones_keep_laws}
 use Rattle.zones.specs.Zones.{Zone, Inconsistent, NormalOf, Satisfies}
 
@@ -57,7 +57,7 @@ module _ {B : Type 0} (kind : Kind B) (net_places : ℕ) (bytes : List ℕ) (res
   -- a record that was taken: the rest of the rows answer, and the draft holds its normal form
   pub record RecordTaken (draft : List B) (tokens : List ℕ) : Type 0 where
     pub passes : (answer : Answer) → Answers rest answer → Answers rows answer
-    pub formed : Formed kind z draft
+    pub formed : DraftFormed kind z draft
     pub places : tokens ≡ z.places
 
   abbrev pub Recorded : List B → Result (ArrayVec ℕ) EntryRefusal → Type 0
@@ -84,7 +84,7 @@ module _ {B : Type 0} (kind : Kind B) (net_places : ℕ) (bytes : List ℕ) (res
       (found (wrong_length bytes) (not_zero bytes) (too_many bytes) (no_such_place net_places bytes) (mark_under_plain kind.marks bytes) last)
 
 -- ---- a zone in a draft
-module _ {B : Type 0} (kind : Kind B) (z : Zone B) (draft : List B) (tokens : List ℕ) (formed : Formed kind z draft) (places : tokens ≡ z.places) where
+module _ {B : Type 0} (kind : Kind B) (z : Zone B) (draft : List B) (tokens : List ℕ) (formed : DraftFormed kind z draft) (places : tokens ≡ z.places) where
   abbrev form : Zone B
   form = draft_zone kind tokens draft
 
@@ -99,14 +99,14 @@ module _ {B : Type 0} (kind : Kind B) (z : Zone B) (draft : List B) (tokens : Li
   pub few_tokens : length tokens ≤ 8
   few_tokens = page_formed.few
 
-  pub page_written : (p : ℕ) (before after : World B) → after.cells ≡ with_page 81 p (cells_of kind form) before.cells → after.places ≡ with_page 8 p (places_of form) before.places → PageWritten kind p z before after
+  pub page_written : (p : ℕ) (before after : World B) → after.cells ≡ with_page 81 p (cells_of kind form) before.cells → after.places ≡ with_page 8 p (page_places_of form) before.places → PageWritten kind p z before after
   page_written p before after cells_are places_are = record { form = form; normal = normal; formed = page_formed; cells = cells_are; places = places_are }
 
   pub form_covers : (m : Marking) → Satisfies kind 1 z m → Satisfies kind 1 form m
   form_covers m s = (zones_keep_laws kind).to_form 1 z form m (omega arith) normal s
 
 -- the initial marking satisfies a record's zone where it satisfies its normal form
-pub zone_covers : {B : Type 0} (kind : Kind B) (bytes : List ℕ) (draft : List B) (tokens : List ℕ) → Formed kind (zone_of kind bytes) draft → tokens ≡ (zone_of kind bytes).places → (m : Marking) → Satisfies kind 1 (draft_zone kind tokens draft) m → Satisfies kind 1 (zone_of kind bytes) m
+pub zone_covers : {B : Type 0} (kind : Kind B) (bytes : List ℕ) (draft : List B) (tokens : List ℕ) → DraftFormed kind (zone_of kind bytes) draft → tokens ≡ (zone_of kind bytes).places → (m : Marking) → Satisfies kind 1 (draft_zone kind tokens draft) m → Satisfies kind 1 (zone_of kind bytes) m
 zone_covers kind bytes draft tokens formed places m s =
     let normal = subst (λ ps. NormalOf kind (zone_of kind bytes) (draft_zone kind ps draft)) (sym places) formed.normal in
     (zones_keep_laws kind).from_form 1 (zone_of kind bytes) (draft_zone kind tokens draft) m (omega arith) (λ j i p q. omega (arith, zone_small kind bytes j i p q)) normal s

@@ -1,9 +1,9 @@
 -- What answers by a table are. Assumes nothing.
 use Rattle.std.proofs.Common.{◌≡◌, false, List, [], ◌∷◌, Ok, Err, is_err, ap, sym, ◌∙◌, ⊎_elim}
 use Rattle.std.proofs.lemmas.Bool.{true≢false}
-use Rattle.refusals.specs.declared.refusal.CallRefusal.{CallRefusal}
-use Rattle.seals.specs.Calls.{is_early}
-use Rattle.seals.specs.Tables.{Answer, Answers, Row}
+use Rattle.docket_refusals.specs.declared.refusal.CallRefusal.{CallRefusal}
+use Rattle.docket_rules.specs.Calls.{is_early}
+use Rattle.docket_rules.specs.Tables.{Answer, Answers, Row}
 
 -- no refusal of these rows comes so early that the scratch page is left
 abbrev pub AllLate : List Row → Type 0

@@ -6,19 +6,19 @@ use Rattle.bounds.specs.Kinds.{Kind}
 use Rattle.docket.specs.Discharging.{Advanced, Weighed, judged, voucher_read}
 use Rattle.docket.proofs.Judged.{judged_answered, judged_answers, judged_late}
 use Rattle.docket.proofs.Named.{item_due, item_held}
-use Rattle.dues.specs.Answered.{Answered, places_of_all, zone_named}
-use Rattle.dues.specs.Dues.{Leads}
-use Rattle.dues.specs.declared.due.Due.{Due}
-use Rattle.entries.specs.Vouchers.{unused_set, voucher_of, voucher_spare}
-use Rattle.entries.specs.declared.fault.EntryRefusal.TheVariants.{WrongLength, NotZero}
-use Rattle.entries.specs.declared.voucher.Voucher.{Voucher}
-use Rattle.items.specs.Made.{Holds, ItemAnswer, Made}
+use Rattle.docket_dues.specs.Answered.{Answered, places_of_all, zone_named}
+use Rattle.docket_dues.specs.Dues.{Leads}
+use Rattle.docket_dues.specs.declared.item.Item.{Item}
+use Rattle.docket_records.specs.Vouchers.{unused_set, voucher_of, voucher_spare}
+use Rattle.docket_records.specs.declared.fault.EntryRefusal.TheVariants.{WrongLength, NotZero}
+use Rattle.docket_records.specs.declared.voucher.Voucher.{Voucher}
+use Rattle.docket_items.specs.Made.{PageHolds, ItemAnswer, ZoneMade}
 use Rattle.nets.specs.Nets.{Net}
-use Rattle.refusals.specs.declared.refusal.CallRefusal.{CallRefusal}
-use Rattle.seals.specs.Calls.{Discharges, Left, Sound, is_early}
-use Rattle.seals.specs.Tables.{Answer, Answers, Begins, discharge_rows, discharge_table, due_in, is_proving, item_rows, partners_used, voucher_rows}
-use Rattle.seals.specs.Worlds.{State, World, listed_pages, page_cells, page_of, page_places, whole}
-use Rattle.seals.specs.declared.stage.Stage.TheVariants.{Proving}
+use Rattle.docket_refusals.specs.declared.refusal.CallRefusal.{CallRefusal}
+use Rattle.docket_rules.specs.Calls.{Discharges, Left, Sound, is_early}
+use Rattle.docket_rules.specs.Tables.{Answer, Answers, Begins, discharge_rows, discharge_table, due_in, is_proving, item_rows, partners_used, voucher_rows}
+use Rattle.docket_rules.specs.Worlds.{State, World, listed_pages, page_cells, page_of, page_places, whole}
+use Rattle.docket_rules.specs.declared.stage.Stage.TheVariants.{Proving}
 
 -- ---- the voucher
 abbrev or_else : {X E : Type 0} → X → Result X E → X
@@ -39,12 +39,12 @@ read_is s bytes v = by (eqb (length bytes) 6) _ refl refl
     by true false l c e = record { long = l; clean = c; is = ap (or_else v) e }
 
 -- ---- weighed
-module _ {B : Type 0} (kind : Kind B) (net : Net B) (w : World B) (bytes : List ℕ) (d : Due) where
-  module _ (places : List ℕ) (cells : List B) (places_are : places ≡ page_places w d.zone) (cells_are : cells ≡ page_cells w d.zone) (before after : List B) (asked : Option (ArrayVec ℕ)) (made : Made kind net places cells d before after asked) where
+module _ {B : Type 0} (kind : Kind B) (net : Net B) (w : World B) (bytes : List ℕ) (d : Item) where
+  module _ (places : List ℕ) (cells : List B) (places_are : places ≡ page_places w d.zone) (cells_are : cells ≡ page_cells w d.zone) (before after : List B) (asked : Option (ArrayVec ℕ)) (made : ZoneMade kind net places cells d before after asked) where
     item_made : w.state.stage ≡ Proving d → length before ≡ 169 → Sound kind net w → ItemAnswer kind net (page_of kind w 0) (listed_pages kind w) d after asked
     item_made proving full sound =
         let named = zone_named (page_of kind w 0) (listed_pages kind w) d.zone in
-        let held = subst (λ c. Holds kind named places c) (sym cells_are) (subst (λ p. Holds kind named p (page_cells w d.zone)) (sym places_are) (item_held kind w net d sound proving)) in
+        let held = subst (λ c. PageHolds kind named places c) (sym cells_are) (subst (λ p. PageHolds kind named p (page_cells w d.zone)) (sym places_are) (item_held kind w net d sound proving)) in
         made.answered (page_of kind w 0) (listed_pages kind w) full (item_due kind w net d sound proving) held
 
     pub weighed : (v : Voucher) (answer : Answer) → voucher_read w.state bytes ≡ Ok v → answer ≡ judged kind w v after asked → Weighed kind net w bytes d before after answer

@@ -4,23 +4,23 @@
 -- Assumes nothing.
 use Rattle.std.specs.Prelude.{◌≡◌, ℕ, ◌+◌, false, cond, not, ◌||◌, List, ◌++◌, length, Ok, Err, Result, Some, None, Option, ◌==◌, min}
 use Rattle.arrayvec.specs.ArrayVec.{ArrayVec}
-use Rattle.books.specs.Objections.{objection_of}
-use Rattle.books.specs.declared.objections.Objection.{Objection}
+use Rattle.zone_pages.specs.Objections.{objection_of}
+use Rattle.zone_pages.specs.declared.objections.Objection.{Objection}
 use Rattle.bounds.specs.Kinds.{Kind}
-use Rattle.cells.specs.Drafts.{draft_zone}
-use Rattle.dues.specs.Answered.{Answered, places_of_all}
-use Rattle.dues.specs.Dues.{Leads}
-use Rattle.dues.specs.declared.due.Due.{Due}
-use Rattle.entries.specs.Vouchers.{unused_set, voucher_of, voucher_spare}
-use Rattle.entries.specs.declared.fault.EntryRefusal.{EntryRefusal}
-use Rattle.entries.specs.declared.fault.EntryRefusal.TheVariants.{WrongLength, NotZero}
-use Rattle.entries.specs.declared.voucher.Voucher.{Voucher}
+use Rattle.zone_cells.specs.Drafts.{draft_zone}
+use Rattle.docket_dues.specs.Answered.{Answered, places_of_all}
+use Rattle.docket_dues.specs.Dues.{Leads}
+use Rattle.docket_dues.specs.declared.item.Item.{Item}
+use Rattle.docket_records.specs.Vouchers.{unused_set, voucher_of, voucher_spare}
+use Rattle.docket_records.specs.declared.fault.EntryRefusal.{EntryRefusal}
+use Rattle.docket_records.specs.declared.fault.EntryRefusal.TheVariants.{WrongLength, NotZero}
+use Rattle.docket_records.specs.declared.voucher.Voucher.{Voucher}
 use Rattle.nets.specs.Nets.{Net}
-use Rattle.refusals.specs.declared.refusal.CallRefusal.TheVariants.{NotVoid, VoidItem as IsVoid, NoSuchZone, Objected}
-use Rattle.seals.specs.Calls.{Sound, is_early, most_taken, stage_of}
-use Rattle.seals.specs.Tables.{Answer, Answers, Begins, item_rows, pairing_of, partners_used, voucher_rows}
-use Rattle.seals.specs.Worlds.{State, World, in_list, listed_pages, page_of}
-use Rattle.seals.specs.declared.stage.Stage.TheVariants.{Proving}
+use Rattle.docket_refusals.specs.declared.refusal.CallRefusal.TheVariants.{NotVoid, VoidItem as IsVoid, NoSuchZone, Objected}
+use Rattle.docket_rules.specs.Calls.{Sound, is_early, most_taken, stage_of}
+use Rattle.docket_rules.specs.Tables.{Answer, Answers, Begins, item_rows, pairing_of, partners_used, voucher_rows}
+use Rattle.docket_rules.specs.Worlds.{State, World, in_list, listed_pages, page_of}
+use Rattle.docket_rules.specs.declared.stage.Stage.TheVariants.{Proving}
 
 -- the voucher that the bytes are, or what is wrong with them
 abbrev pub voucher_read : State → (bytes : List ℕ) → Result Voucher EntryRefusal
@@ -39,7 +39,7 @@ judged kind w v draft (Some tokens) =
     cond v.void (Err NotVoid)
     (cond (in_list w.state v.zone) (objected (objection_of kind (page_of kind w v.zone) (draft_zone kind tokens.items draft) (pairing_of w.state v))) (Err NoSuchZone))
 
-pub record Weighed {B : Type 0} (kind : Kind B) (net : Net B) (w : World B) (bytes : List ℕ) (d : Due) (before after : List B) (answer : Answer) : Type 0 where
+pub record Weighed {B : Type 0} (kind : Kind B) (net : Net B) (w : World B) (bytes : List ℕ) (d : Item) (before after : List B) (answer : Answer) : Type 0 where
   pub kept : length after ≡ length before
   pub late : is_early answer ≡ false
   pub begins : Begins (voucher_rows w.state bytes) answer
@@ -47,7 +47,7 @@ pub record Weighed {B : Type 0} (kind : Kind B) (net : Net B) (w : World B) (byt
   pub answered : w.state.stage ≡ Proving d → length before ≡ 169 → Sound kind net w → answer ≡ Ok tt → Answered kind net (page_of kind w 0) (listed_pages kind w) d
 
 -- the item that follows is due, or the docket is sealed, and one voucher more is taken
-pub record Advanced {B : Type 0} (kind : Kind B) (net : Net B) (w : World B) (d : Due) (after : State) : Type 0 where
-  pub next : Option Due
+pub record Advanced {B : Type 0} (kind : Kind B) (net : Net B) (w : World B) (d : Item) (after : State) : Type 0 where
+  pub next : Option Item
   pub leads : Leads net (places_of_all (listed_pages kind w)) d next
   pub state : after ≡ record { stage = stage_of next; initial = w.state.initial; counts = w.state.counts; taken = min (w.state.taken + 1) most_taken }

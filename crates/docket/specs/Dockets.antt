@@ -3,9 +3,9 @@
 -- Assumes nothing.
 use Rattle.std.specs.Prelude.{◌≡◌, ℕ, List, Ok, Err}
 use Rattle.docket.specs.declared.docket.Docket.{Docket}
-use Rattle.refusals.specs.declared.refusal.CallRefusal.{CallRefusal}
-use Rattle.seals.specs.Tables.{Answer, Answers, Row}
-use Rattle.seals.specs.Worlds.{State, World}
+use Rattle.docket_refusals.specs.declared.refusal.CallRefusal.{CallRefusal}
+use Rattle.docket_rules.specs.Tables.{Answer, Answers, Row}
+use Rattle.docket_rules.specs.Worlds.{State, World}
 
 abbrev pub state_of : Docket → State
 state_of d = record { stage = d.stage; initial = d.initial.items; counts = d.counts.items; taken = d.taken }

@@ -3,11 +3,11 @@
 use Rattle.std.specs.Prelude.{ℕ, cond, ◌||◌, List, length, Ok, Err, Result, nat_le, nat_lt}
 use Rattle.std.specs.List.{list_any}
 use Rattle.arrayvec.specs.ArrayVec.{ArrayVec}
-use Rattle.entries.specs.declared.fault.EntryRefusal.{EntryRefusal}
-use Rattle.entries.specs.declared.fault.EntryRefusal.TheVariants.{TooMany, NoSuchPlace}
-use Rattle.entries.specs.declared.token.InitialToken.{InitialToken}
-use Rattle.seals.specs.Calls.{initial_tokens}
-use Rattle.seals.specs.Tables.{too_old}
+use Rattle.docket_records.specs.declared.fault.EntryRefusal.{EntryRefusal}
+use Rattle.docket_records.specs.declared.fault.EntryRefusal.TheVariants.{TooMany, NoSuchPlace}
+use Rattle.docket_records.specs.declared.token.InitialToken.{InitialToken}
+use Rattle.docket_rules.specs.Calls.{initial_tokens}
+use Rattle.docket_rules.specs.Tables.{too_old}
 
 abbrev pub gathered : (net_places : ℕ) → (places ages : List ℕ) → Result (ArrayVec InitialToken) EntryRefusal
 gathered net_places places ages =

@@ -1,33 +1,33 @@
 // One voucher for the first item that is due.
-ghost use Rattle.books.specs.Objections.{objection_of};
-ghost use Rattle.cells.specs.Drafts.{draft_zone};
+ghost use Rattle.zone_pages.specs.Objections.{objection_of};
+ghost use Rattle.zone_cells.specs.Drafts.{draft_zone};
 ghost use Rattle.docket.specs.Discharging.{Advanced, Weighed, judged, voucher_read};
 ghost use Rattle.docket.specs.Dockets.{state_of, world_of};
-ghost use Rattle.seals.specs.Calls.{Discharges};
-ghost use Rattle.seals.specs.Promise.{Promise};
-ghost use Rattle.seals.specs.Tables.{pairing_of, partners_used};
-ghost use Rattle.seals.specs.Worlds.{in_list, page_cells, page_of, page_places};
+ghost use Rattle.docket_rules.specs.Calls.{Discharges};
+ghost use Rattle.docket_rules.specs.Promise.{Promise};
+ghost use Rattle.docket_rules.specs.Tables.{pairing_of, partners_used};
+ghost use Rattle.docket_rules.specs.Worlds.{in_list, page_cells, page_of, page_places};
 ghost use Rattle.std.specs.Prelude.{◌≡◌, ◌<◌, length, slice_index};
 
 use crate::docket::Docket;
 use crate::memory::{is_whole, page};
-use books::{Book, Claim, Item, Objection, Page, wipe};
 use bounds::Bound;
-use dues::Due;
-use entries::fault::EntryRefusal;
-use entries::record::Record;
-use entries::voucher::Voucher;
-use items::{item_zone, next_due};
+use docket_dues::Item;
+use docket_items::{item_zone, next_due};
+use docket_records::fault::EntryRefusal;
+use docket_records::record::Record;
+use docket_records::voucher::Voucher;
+use docket_refusals::CallRefusal;
+use docket_rules::{Stage, seals_keep_promises};
 use nets::NetStore;
-use pages::bytes::byte;
-use pages::tokens::Tokens;
-use refusals::CallRefusal;
-use seals::{Stage, seals_keep_promises};
+use zone_drafts::bytes::byte;
+use zone_drafts::tokens::Tokens;
+use zone_pages::{Asked, Book, Claim, Objection, Page, wipe};
 use zones::MOST_TOKENS;
 
 impl Docket {
     // How many tokens a page has; one that is not written has none.
-    fn tokens_of(&self, number: u8) -> u8
+    fn token_count(&self, number: u8) -> u8
         ensures { result ≡ slice_index (state_of self.now).counts number }
     {
         byte(&self.counts, usize::from(number))
@@ -39,7 +39,7 @@ impl Docket {
         ensures places { result.places.now ≡ page_places (world_of self.now book.now.cells.now book.now.places.now) number }
         ensures few { length result.places.now < 256 }
     {
-        page(book.cells, book.places, number, self.tokens_of(number))
+        page(book.cells, book.places, number, self.token_count(number))
     }
 
     fn is_listed(&self, zone: u8) -> bool
@@ -53,7 +53,7 @@ impl Docket {
         ensures { result ≡ partners_used (state_of self.now) voucher.now }
     {
         if self.is_listed(voucher.zone) {
-            self.tokens_of(voucher.zone)
+            self.token_count(voucher.zone)
         } else {
             MOST_TOKENS
         }
@@ -73,12 +73,12 @@ impl Docket {
     fn objection<B: Bound>(
         &self,
         book: &Book<'_, '_, B>,
-        asked: Item<'_, '_, B>,
+        asked: Asked<'_, '_, B>,
         voucher: &Voucher,
     ) -> Result<(), Objection>
         ensures { result ≡ objection_of B.Bound.kind (page_of B.Bound.kind (world_of self.now book.now.cells.now book.now.places.now) voucher.now.zone) (draft_zone B.Bound.kind asked.entry.places.now asked.entry.cells.now) (pairing_of (state_of self.now) voucher.now) }
     {
-        let tokens = usize::from(self.tokens_of(voucher.zone));
+        let tokens = usize::from(self.token_count(voucher.zone));
         let claim = Claim {
             page: self.page(book, voucher.zone),
             item: asked,
@@ -103,7 +103,7 @@ impl Docket {
             (false, None) => Err(CallRefusal::VoidItem),
             (false, Some(_)) if !self.is_listed(voucher.zone) => Err(CallRefusal::NoSuchZone),
             (false, Some(tokens)) => {
-                let item = Item {
+                let item = Asked {
                     cells: draft,
                     places: &tokens,
                 };
@@ -119,7 +119,7 @@ impl Docket {
         book: &Book<'_, '_, B>,
         scratch: &mut [B],
         bytes: &[u8],
-        item: Due,
+        item: Item,
     ) -> Result<(), CallRefusal>
         ensures { Weighed B.Bound.kind (N.NetStore.net store.now) (world_of self.now book.now.cells.now book.now.places.now) bytes.now item scratch.old scratch.new result }
     {
@@ -128,7 +128,7 @@ impl Docket {
         self.judge(book, scratch, asked, &voucher)
     }
 
-    fn advance<B: Bound, N: NetStore<B>>(&mut self, store: &N, book: &Book<'_, '_, B>, item: Due)
+    fn advance<B: Bound, N: NetStore<B>>(&mut self, store: &N, book: &Book<'_, '_, B>, item: Item)
         ensures { Advanced B.Bound.kind (N.NetStore.net store.now) (world_of self.old book.now.cells.now book.now.places.now) item (state_of self.new) }
     {
         let places = self.page(book, item.zone).places;

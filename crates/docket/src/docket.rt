@@ -1,18 +1,18 @@
 // What a docket keeps between its calls: how far it has come, the initial tokens, and how many tokens each page has.
 ghost use Rattle.docket.specs.Dockets.{state_of};
-ghost use Rattle.seals.specs.Calls.{Closes, next_due_of};
-ghost use Rattle.seals.specs.Tables.{is_sealed};
-ghost use Rattle.seals.specs.Worlds.{blank, listed_count};
+ghost use Rattle.docket_rules.specs.Calls.{Closes, next_due_of};
+ghost use Rattle.docket_rules.specs.Tables.{is_sealed};
+ghost use Rattle.docket_rules.specs.Worlds.{blank, listed_count};
 ghost use Rattle.std.specs.Prelude.{◌≡◌};
 
 use arrayvec::ArrayVec;
-use dues::Due;
-use markings::InitialTokens;
-use refusals::CallRefusal;
-use seals::Stage;
+use docket_dues::Item;
+use docket_refusals::CallRefusal;
+use docket_rules::Stage;
+use zone_markings::InitialTokens;
 
 // The first item that is due: the target itself.
-const TARGET: Due = Due {
+const TARGET: Item = Item {
     zone: 0,
     transition: 0,
     matching: 0,
@@ -53,7 +53,7 @@ impl Docket {
     }
 
     // The first item that is due; none outside proving.
-    pub fn next_due(&self) -> Option<Due>
+    pub fn next_due(&self) -> Option<Item>
         ensures { result ≡ next_due_of (state_of self.now).stage }
     {
         match self.stage {

@@ -1,14 +1,14 @@
 // Memory that a call is lent: whether it is whole, and the pages of the book.
-ghost use Rattle.cells.specs.Cells.{in_draft};
-ghost use Rattle.cells.specs.Drafts.{draft_zone};
-ghost use Rattle.seals.specs.Calls.{cell_of, cells_of, places_of, with_page};
+ghost use Rattle.zone_cells.specs.Cells.{in_draft};
+ghost use Rattle.zone_cells.specs.Drafts.{draft_zone};
+ghost use Rattle.docket_rules.specs.Calls.{cell_of, cells_of, page_places_of, with_page};
 ghost use Rattle.std.specs.List.{range_with_len};
 ghost use Rattle.std.specs.Prelude.{◌≡◌, ◌==◌, ◌&&◌, ◌+◌, ◌*◌, ◌/◌, ◌%◌, ◌<◌, ◌≤◌, ◌++◌, ℕ, length, take, drop, map};
 
-use books::Page;
 use bounds::Bound;
-use pages::bytes::byte;
-use pages::draft::{DRAFT_CELLS, bound_at};
+use zone_drafts::bytes::byte;
+use zone_drafts::draft::{DRAFT_CELLS, bound_at};
+use zone_pages::Page;
 
 // 64 pages of 81 cells.
 pub const BOOK_CELLS: usize = 5184;
@@ -85,7 +85,7 @@ pub(crate) fn write_page<B: Bound>(
     requires within { number < 64 }
     requires few { length tokens.now ≤ 8 }
     ensures cells { cells.new ≡ with_page 81 number (cells_of B.Bound.kind (draft_zone B.Bound.kind tokens.now draft.now)) cells.old }
-    ensures places { places.new ≡ with_page 8 number (places_of (draft_zone B.Bound.kind tokens.now draft.now)) places.old }
+    ensures places { places.new ≡ with_page 8 number (page_places_of (draft_zone B.Bound.kind tokens.now draft.now)) places.old }
 {
     let count = tokens.len() as u8;
     write_part(

@@ -1,23 +1,23 @@
 // Opening: the initial marking, and the target on page 0.
 ghost use Rattle.docket.specs.Dockets.{Tried, world_of};
 ghost use Rattle.docket.specs.Gathered.{gathered};
-ghost use Rattle.entries.specs.ZoneRecords.{zone_of};
-ghost use Rattle.seals.specs.Calls.{Opened, Opens, initial_tokens};
-ghost use Rattle.seals.specs.Tables.{initial_rows, record_rows, too_old};
+ghost use Rattle.docket_records.specs.ZoneRecords.{zone_of};
+ghost use Rattle.docket_rules.specs.Calls.{Opened, Opens, initial_tokens};
+ghost use Rattle.docket_rules.specs.Tables.{initial_rows, record_rows, too_old};
 ghost use Rattle.std.specs.List.{list_any};
 ghost use Rattle.std.specs.Prelude.{◌≡◌, ◌≤◌, ◌++◌, length, nat_le};
 
 use crate::docket::Docket;
 use crate::memory::{is_whole, write_page};
-use books::wipe;
 use bounds::Bound;
-use entries::fault::EntryRefusal;
-use entries::token::InitialToken;
-use markings::InitialTokens;
+use docket_records::fault::EntryRefusal;
+use docket_records::token::InitialToken;
+use docket_refusals::CallRefusal;
+use docket_rules::Stage;
 use nets::NetStore;
-use reading::read_zone;
-use refusals::CallRefusal;
-use seals::Stage;
+use zone_markings::InitialTokens;
+use zone_pages::wipe;
+use zone_reading::read_zone;
 
 const MOST_INITIAL: usize = 8;
 

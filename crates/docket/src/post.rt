@@ -1,23 +1,23 @@
 // Posting a listed zone.
 ghost use Rattle.docket.specs.Dockets.{Tried, state_of, world_of};
-ghost use Rattle.entries.specs.ZoneRecords.{zone_of};
-ghost use Rattle.markings.specs.Initial.{marking_of};
-ghost use Rattle.refusals.specs.declared.refusal.CallRefusal.TheVariants.{Covered};
-ghost use Rattle.seals.specs.Calls.{Posted, Posts};
-ghost use Rattle.seals.specs.Tables.{record_rows, row};
-ghost use Rattle.seals.specs.declared.stage.Stage.TheVariants.{Listing};
+ghost use Rattle.docket_records.specs.ZoneRecords.{zone_of};
+ghost use Rattle.zone_markings.specs.Initial.{marking_of};
+ghost use Rattle.docket_refusals.specs.declared.refusal.CallRefusal.TheVariants.{Covered};
+ghost use Rattle.docket_rules.specs.Calls.{Posted, Posts};
+ghost use Rattle.docket_rules.specs.Tables.{record_rows, row};
+ghost use Rattle.docket_rules.specs.declared.stage.Stage.TheVariants.{Listing};
 ghost use Rattle.std.specs.Prelude.{◌≡◌, ◌<◌, [], ◌∷◌, ◌++◌, length};
 ghost use Rattle.zones.specs.Zones.{Satisfies};
 
 use crate::docket::Docket;
 use crate::memory::{is_whole, write_page};
-use books::wipe;
 use bounds::Bound;
-use markings::satisfies;
+use docket_refusals::CallRefusal;
+use docket_rules::Stage;
 use nets::NetStore;
-use reading::read_zone;
-use refusals::CallRefusal;
-use seals::Stage;
+use zone_markings::satisfies;
+use zone_pages::wipe;
+use zone_reading::read_zone;
 
 impl Docket {
     // The record's zone on the next page, where it is well formed and the initial marking does not satisfy it.

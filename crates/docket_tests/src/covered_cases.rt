@@ -1,6 +1,6 @@
 // Which zones a docket with initial tokens lists: 26, and under marked kind strict bounds, which exclude their own number.
 use crate::faults::number_under;
-use crate::line::{Call, Line};
+use crate::fixture::{Call, Fixture};
 use crate::stages::{BOTH_IN_1, two_carriers};
 use bounds::{Bound, MarkedBound, PlainBound};
 use std::alloc::{AllocError, Global};
@@ -66,7 +66,7 @@ fn check_rows<B: Bound + PartialEq>(
     rows: &[Row],
 ) -> Result<(), AllocError> {
     let bytes = two_carriers(heap)?;
-    let mut line: Line<'_, B> = Line::blank(heap, &bytes)?;
+    let mut line: Fixture<'_, B> = Fixture::blank(heap, &bytes)?;
     let target = record(heap, &BOTH_IN_1, &[])?;
     line.gives(rt, Call::Open(places, ages, &target), 0)?;
     for (listed, plain, marked) in rows {

@@ -1,6 +1,6 @@
 // What discharging is refused for.
 use crate::due_cases::item;
-use crate::line::{Call, Line};
+use crate::fixture::{Call, Fixture};
 use crate::stages::*;
 use bounds::{Bound, MarkedBound, PlainBound};
 use std::alloc::{AllocError, Global};
@@ -70,8 +70,8 @@ fn five_listed<'a, B: Bound + PartialEq>(
     rt: &impl Abort,
     heap: Global,
     bytes: &'a [u8],
-) -> Result<Line<'a, B>, AllocError> {
-    let mut line: Line<'_, B> = line_at(rt, heap, bytes, Stage::Listing)?;
+) -> Result<Fixture<'a, B>, AllocError> {
+    let mut line: Fixture<'_, B> = line_at(rt, heap, bytes, Stage::Listing)?;
     let young = [(1, 0, 5)];
     line.gives(rt, Call::Post(&record(heap, &BOTH_IN_1, &young)?), 0)?;
     line.gives(rt, Call::Post(&record(heap, &ONE_EACH, &young)?), 0)?;
@@ -87,7 +87,7 @@ fn first_bytes(heap: Global, bytes: [u8; 7], length: u8) -> Result<Vec<u8>, Allo
 // Under memory of other lengths it is 41; where this is not the stage, 40.
 fn check_rows<B: Bound + PartialEq>(
     rt: &impl Abort,
-    line: &mut Line<'_, B>,
+    line: &mut Fixture<'_, B>,
     is_proving: bool,
 ) -> Result<(), AllocError> {
     for (length, bytes, number) in AT_TARGET {
@@ -101,11 +101,11 @@ fn check_rows<B: Bound + PartialEq>(
 fn check_stages<B: Bound + PartialEq>(rt: &impl Abort, heap: Global) -> Result<(), AllocError> {
     let bytes = two_carriers(heap)?;
     for stage in [Stage::Blank, Stage::Listing, Stage::Full, Stage::Sealed] {
-        let mut line: Line<'_, B> = line_at(rt, heap, &bytes, stage)?;
+        let mut line: Fixture<'_, B> = line_at(rt, heap, &bytes, stage)?;
         check_rows(rt, &mut line, false)?;
         line.refuses_each(rt, Call::Discharge(&ZONE_1), 40, 40)?;
     }
-    let mut line: Line<'_, B> = five_listed(rt, heap, &bytes)?;
+    let mut line: Fixture<'_, B> = five_listed(rt, heap, &bytes)?;
     line.gives(rt, Call::Close, 0)?;
     check_rows(rt, &mut line, true)?;
     // one that is allowed, but for the memory
@@ -210,8 +210,8 @@ fn one_token<'a, B: Bound + PartialEq>(
     heap: Global,
     bytes: &'a [u8],
     zones: &[[Listed; 2]],
-) -> Result<Line<'a, B>, AllocError> {
-    let mut line: Line<'_, B> = Line::blank(heap, bytes)?;
+) -> Result<Fixture<'a, B>, AllocError> {
+    let mut line: Fixture<'_, B> = Fixture::blank(heap, bytes)?;
     for (number, listed) in zones.iter().enumerate() {
         let zone = record(heap, &ONE_IN_1, listed)?;
         let call = if number == 0 {
@@ -232,7 +232,7 @@ fn check_steps<B: Bound + PartialEq>(
     steps: &[Step],
 ) -> Result<(), AllocError> {
     let bytes = two_carriers(heap)?;
-    let mut line: Line<'_, B> = one_token(rt, heap, &bytes, zones)?;
+    let mut line: Fixture<'_, B> = one_token(rt, heap, &bytes, zones)?;
     for (due, voucher, number) in steps {
         assert_eq!(rt; line.docket.next_due(), Some(item(*due)));
         line.gives(rt, Call::Discharge(voucher), *number)?;

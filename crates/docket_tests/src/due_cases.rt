@@ -1,9 +1,9 @@
 // What is due for the line of two carriers.
 use crate::stages::two_carriers;
 use bounds::PlainBound;
-use dues::Due;
-use items::next_due;
-use records::packed::PackedNet;
+use docket_dues::Item;
+use docket_items::next_due;
+use net_records::packed::PackedNet;
 use std::test::Fail;
 
 // The places of the tokens of a listed zone; of the target none are asked.
@@ -30,9 +30,9 @@ pub const ITEMS: [(u8, u8, u16); 10] = [
     (3, 1, 0),
 ];
 
-pub fn item(listed: (u8, u8, u16)) -> Due {
+pub fn item(listed: (u8, u8, u16)) -> Item {
     let (zone, transition, matching) = listed;
-    Due {
+    Item {
         zone,
         transition,
         matching,

@@ -10,7 +10,7 @@ mod due_cases;
 #[cfg(test)]
 mod faults;
 #[cfg(test)]
-mod line;
+mod fixture;
 #[cfg(test)]
 mod open_cases;
 #[cfg(test)]

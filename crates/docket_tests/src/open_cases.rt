@@ -1,6 +1,6 @@
 // What opening is refused for.
 use crate::faults::{Fault, RECORDS, faulty, refusal_under};
-use crate::line::{Call, Line};
+use crate::fixture::{Call, Fixture};
 use crate::stages::{STAGES, Stage, line_at, two_carriers};
 use bounds::{Bound, MarkedBound, PlainBound};
 use std::alloc::{AllocError, Global};
@@ -93,7 +93,7 @@ const MARKINGS: [(Initial, Fault, u8); 28] = [
 // The call that a blank docket refuses with this number; 0 where it is taken.
 fn check_call<B: Bound + PartialEq>(
     rt: &impl Abort,
-    line: &mut Line<'_, B>,
+    line: &mut Fixture<'_, B>,
     stage: Stage,
     initial: Initial,
     faults: [Fault; 2],
@@ -110,7 +110,7 @@ fn check_call<B: Bound + PartialEq>(
 
 fn check_stage<B: Bound + PartialEq>(
     rt: &impl Abort,
-    line: &mut Line<'_, B>,
+    line: &mut Fixture<'_, B>,
     stage: Stage,
 ) -> Result<(), AllocError> {
     for row in RECORDS {
@@ -126,7 +126,7 @@ fn check_stage<B: Bound + PartialEq>(
 fn check_stages<B: Bound + PartialEq>(rt: &impl Abort, heap: Global) -> Result<(), AllocError> {
     let bytes = two_carriers(heap)?;
     for stage in STAGES {
-        let mut line: Line<'_, B> = line_at(rt, heap, &bytes, stage)?;
+        let mut line: Fixture<'_, B> = line_at(rt, heap, &bytes, stage)?;
         check_stage(rt, &mut line, stage)?;
     }
     Ok(())

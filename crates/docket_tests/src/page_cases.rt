@@ -1,5 +1,5 @@
 // What open and post write: the normal form and the places of their zone on its page, and nothing on any other.
-use crate::line::{Call, Line};
+use crate::fixture::{Call, Fixture};
 use crate::stages::{BOTH_IN_1, ONE_EACH, ONE_IN_1, two_carriers};
 use bounds::{Bound, MarkedBound, PlainBound, bound_of};
 use std::alloc::{AllocError, Global};
@@ -39,7 +39,7 @@ impl<'e> Written<'e> {
 // A call that is taken and writes a page.
 fn check_written<B: Bound + PartialEq>(
     rt: &impl Abort,
-    line: &mut Line<'_, B>,
+    line: &mut Fixture<'_, B>,
     call: Call<'_>,
     written: Written<'_>,
 ) -> Result<(), AllocError> {
@@ -93,7 +93,7 @@ const EIGHT_IN_1: [u8; 7] = [8, 0x04, 0x10, 0x41, 0x04, 0x10, 0x41];
 // A target of no tokens on page 0, zones of two, of eight and of one on pages 1 to 3, and the last page.
 fn check_pages<B: Bound + PartialEq>(rt: &impl Abort, heap: Global) -> Result<(), AllocError> {
     let bytes = two_carriers(heap)?;
-    let mut line: Line<'_, B> = Line::blank(heap, &bytes)?;
+    let mut line: Fixture<'_, B> = Fixture::blank(heap, &bytes)?;
     let none = Written {
         page: 0,
         places: [0; 8],
@@ -150,7 +150,7 @@ const STRICT_FORM: [Entry; 6] = [
 fn a_page_keeps_marks(rt: HostRuntime) -> Result<(), AllocError> {
     let heap = rt.alloc();
     let bytes = two_carriers(heap)?;
-    let mut line: Line<'_, MarkedBound> = Line::blank(heap, &bytes)?;
+    let mut line: Fixture<'_, MarkedBound> = Fixture::blank(heap, &bytes)?;
     let above_1 = Written {
         page: 0,
         places: [1, 0, 0, 0, 0, 0, 0, 0],
@@ -176,7 +176,7 @@ fn check_taken<B: Bound + PartialEq>(
     ages: &[u16],
 ) -> Result<(), AllocError> {
     let bytes = two_carriers(heap)?;
-    let mut line: Line<'_, B> = Line::blank(heap, &bytes)?;
+    let mut line: Fixture<'_, B> = Fixture::blank(heap, &bytes)?;
     let two = Written {
         page: 0,
         places: [1, 0, 0, 0, 0, 0, 0, 0],

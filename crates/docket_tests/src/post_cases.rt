@@ -1,6 +1,6 @@
 // What posting is refused for.
 use crate::faults::{Fault, RECORDS, Row, faulty, refusal_under};
-use crate::line::{Call, Line};
+use crate::fixture::{Call, Fixture};
 use crate::stages::{STAGES, Stage, line_at, two_carriers};
 use bounds::{Bound, MarkedBound, PlainBound};
 use std::alloc::{AllocError, Global};
@@ -30,7 +30,7 @@ fn at_stage(stage: Stage, number: u8) -> (u8, u8) {
 
 fn check_row<B: Bound + PartialEq>(
     rt: &impl Abort,
-    line: &mut Line<'_, B>,
+    line: &mut Fixture<'_, B>,
     stage: Stage,
     row: Row,
 ) -> Result<(), AllocError> {
@@ -42,7 +42,7 @@ fn check_row<B: Bound + PartialEq>(
 fn check_stages<B: Bound + PartialEq>(rt: &impl Abort, heap: Global) -> Result<(), AllocError> {
     let bytes = two_carriers(heap)?;
     for stage in STAGES {
-        let mut line: Line<'_, B> = line_at(rt, heap, &bytes, stage)?;
+        let mut line: Fixture<'_, B> = line_at(rt, heap, &bytes, stage)?;
         for row in RECORDS.iter().chain(COVERED.iter()) {
             check_row(rt, &mut line, stage, *row)?;
         }

@@ -1,6 +1,6 @@
 // The docket of the line of two carriers, from the blank one to its seal.
 use crate::due_cases::{ITEMS, item};
-use crate::line::{Call, Line};
+use crate::fixture::{Call, Fixture};
 use crate::stages::*;
 use bounds::{Bound, MarkedBound, PlainBound};
 use std::alloc::{AllocError, Global};
@@ -20,7 +20,7 @@ const ANSWERS: [(Stage, bool, bool, u8, u64); 5] = [
 fn check_answers<B: Bound + PartialEq>(rt: &impl Abort, heap: Global) -> Result<(), AllocError> {
     let bytes = two_carriers(heap)?;
     for (stage, is_proving, is_sealed, listed, taken) in ANSWERS {
-        let mut line: Line<'_, B> = line_at(rt, heap, &bytes, stage)?;
+        let mut line: Fixture<'_, B> = line_at(rt, heap, &bytes, stage)?;
         let due = is_proving.then_some(item((0, 0, 0)));
         assert_eq!(rt; line.docket.next_due(), due, "{stage:?}");
         assert_eq!(rt; line.docket.is_sealed(), is_sealed, "{stage:?}");
@@ -41,7 +41,7 @@ fn each_stage_answers_for_itself(rt: HostRuntime) -> Result<(), AllocError> {
 
 fn check_seal<B: Bound + PartialEq>(rt: &impl Abort, heap: Global) -> Result<(), AllocError> {
     let bytes = two_carriers(heap)?;
-    let mut line: Line<'_, B> = line_at(rt, heap, &bytes, Stage::Proving)?;
+    let mut line: Fixture<'_, B> = line_at(rt, heap, &bytes, Stage::Proving)?;
     for (due, voucher) in ITEMS.iter().zip(VOUCHERS.iter()) {
         assert_eq!(rt; line.docket.next_due(), Some(item(*due)));
         assert!(rt; !line.docket.is_sealed());
@@ -63,7 +63,7 @@ fn ten_vouchers_seal(rt: HostRuntime) -> Result<(), AllocError> {
 fn a_list_without_zones_is_never_sealed(rt: HostRuntime) -> Result<(), AllocError> {
     let heap = rt.alloc();
     let bytes = two_carriers(heap)?;
-    let mut line: Line<'_, PlainBound> = Line::blank(heap, &bytes)?;
+    let mut line: Fixture<'_, PlainBound> = Fixture::blank(heap, &bytes)?;
     let target = record(heap, &BOTH_IN_1, &[])?;
     line.gives(&rt, Call::Open(&[0], &[0], &target), 0)?;
     line.gives(&rt, Call::Close, 0)?;

@@ -1,5 +1,5 @@
 // Dockets of the line of two carriers at each of their stages, and what is asked of each stage.
-use crate::line::{Call, Line};
+use crate::fixture::{Call, Fixture};
 use bounds::Bound;
 use std::alloc::{AllocError, Global};
 use std::process::Abort;
@@ -59,8 +59,8 @@ pub fn listing<'a, B: Bound + PartialEq>(
     rt: &impl Abort,
     heap: Global,
     bytes: &'a [u8],
-) -> Result<Line<'a, B>, AllocError> {
-    let mut line = Line::blank(heap, bytes)?;
+) -> Result<Fixture<'a, B>, AllocError> {
+    let mut line = Fixture::blank(heap, bytes)?;
     let target = record(heap, &BOTH_IN_1, &[])?;
     line.gives(rt, Call::Open(&[0], &[2], &target), 0)?;
     line.gives(rt, Call::Post(&target), 0)?;
@@ -72,7 +72,7 @@ pub fn listing<'a, B: Bound + PartialEq>(
 // The stages after listing.
 fn lead_on<B: Bound + PartialEq>(
     rt: &impl Abort,
-    line: &mut Line<'_, B>,
+    line: &mut Fixture<'_, B>,
     stage: Stage,
 ) -> Result<(), AllocError> {
     if stage == Stage::Full {
@@ -97,9 +97,9 @@ pub fn line_at<'a, B: Bound + PartialEq>(
     heap: Global,
     bytes: &'a [u8],
     stage: Stage,
-) -> Result<Line<'a, B>, AllocError> {
+) -> Result<Fixture<'a, B>, AllocError> {
     if stage == Stage::Blank {
-        return Line::blank(heap, bytes);
+        return Fixture::blank(heap, bytes);
     }
     let mut line = listing(rt, heap, bytes)?;
     lead_on(rt, &mut line, stage)?;

@@ -1,7 +1,7 @@
 // Vouchers read from bytes.
-use entries::fault::EntryRefusal;
-use entries::record::Record;
-use entries::voucher::Voucher;
+use docket_records::fault::EntryRefusal;
+use docket_records::record::Record;
+use docket_records::voucher::Voucher;
 use std::test::Fail;
 
 #[test]

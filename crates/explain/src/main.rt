@@ -1,7 +1,7 @@
 // Reads a file from standard input, and prints its net and its docket part in words or why they are refused.
 #![tactic(auto)]
 
-use docket_words::explain_file;
+use file_words::explain_file;
 use std::io::Read;
 
 fn main(rt: HostRuntime) -> anyhow::Result<()> {

@@ -1,5 +1,5 @@
 // A file made of its parts, for the line of two carriers, and the line that it is to have.
-use filing::report;
+use file_check::report;
 use std::alloc::{AllocError, Global};
 use std::process::Abort;
 use test_records::net_records::one_transition;

@@ -10,7 +10,7 @@ use Rattle.loops.specs.declared.line.LineFault.{LineFault}
 use Rattle.loops.specs.declared.line.LineFault.TheVariants.{TooManyLines}
 use Rattle.loops.specs.Lines.{lines, grown, first_line, after_line}
 use Rattle.loops.specs.Readings.{line_bound}
-use Rattle.loops.specs.Loops.{total_after, total, named, with_bound, added, Allowed, Faulty, most_lines}
+use Rattle.loops.specs.Loops.{total_after, total, named, with_bound, added, AllAllowed, Faulty, most_lines}
 
 -- ---- lines
 step_line : (b : ℕ) (text : List ℕ) (t : Bool) → grown b (lines text) ≡ (b ∷ first_line text) ∷ lines (after_line text) → cond t ([] ∷ lines text) (grown b (lines text)) ≡ cond t [] (b ∷ first_line text) ∷ lines (cond t text (after_line text))
@@ -102,7 +102,7 @@ module _ {B : Type 0} (kind : Kind B) (text : List ℕ) where
 
 -- ---- no timing under a sum below zero
 module _ {B : Type 0} (kind : Kind B) (k : ℕ) (grid : 1 ≤ k) where
-  allowed_total : (s : B) (e : ℤ) (bs : List B) (ds : List ℤ) → kind.allows k s e ≡ true → Allowed kind k bs ds → kind.allows k (total_after kind s bs) (e +ℤ added ds) ≡ true
+  allowed_total : (s : B) (e : ℤ) (bs : List B) (ds : List ℤ) → kind.allows k s e ≡ true → AllAllowed kind k bs ds → kind.allows k (total_after kind s bs) (e +ℤ added ds) ≡ true
   allowed_total s e [] [] h a = ap (kind.allows k s) (+ℤ_idr e) ∙ h
   allowed_total s e [] (d ∷ ds) h a = absurd a
   allowed_total s e (b ∷ bs) [] h a = absurd a
@@ -110,7 +110,7 @@ module _ {B : Type 0} (kind : Kind B) (k : ℕ) (grid : 1 ≤ k) where
       ap (kind.allows k (total_after kind (kind.sum s b) bs)) (sym (+ℤ_assoc e d (added ds)))
       ∙ allowed_total (kind.sum s b) (e +ℤ d) bs ds (kind.sum_allows k s b e d grid h a.0) a.1
 
-  pub none_meets : (bs : List B) (ds : List ℤ) → kind.at_most kind.zero (total kind bs) ≡ false → Allowed kind k bs ds → added ds ≡ pos 0 → ⊥
+  pub none_meets : (bs : List B) (ds : List ℤ) → kind.at_most kind.zero (total kind bs) ≡ false → AllAllowed kind k bs ds → added ds ≡ pos 0 → ⊥
   none_meets bs ds below a closed =
       let h = allowed_total kind.zero (pos 0) bs ds (kind.zero_allows k (pos 0) grid) a in
       let z : kind.allows k (total kind bs) (pos 0) ≡ true = ap (kind.allows k (total kind bs)) (sym (+ℤ_idl (added ds) ∙ closed)) ∙ h in

@@ -7,7 +7,7 @@ use Rattle.std.proofs.lemmas.Bool.{ne_eqb, ltb-false, cond-false, cases_Bool}
 use Rattle.std.specs.List.{position_or_len}
 use Rattle.std.specs.Option.{option_map}
 use Rattle.bounds.specs.Kinds.{Kind}
-use Rattle.loops.specs.Readings.{number_bound, marked_bound, line_bound}
+use Rattle.loops.specs.Readings.{number_bound, marked_line_bound, line_bound}
 use Rattle.loops.specs.Lines.{first_line, after_line, digit, digits_after, natural, clipped}
 
 -- ---- the first line feed
@@ -91,13 +91,13 @@ read_all text i number past small so_far =
     ap Some (omega arith) ∙ ap (λ r. option_map clipped (digits_after number r)) (sym (drop_all i text past)) ∙ so_far
 
 -- ---- a line
-pub marked_plain : {B : Type 0} (kind : Kind B) (line : List ℕ) → ((rest : List ℕ) → line ≡ 60 ∷ rest → ⊥) → marked_bound kind line ≡ number_bound kind line false
+pub marked_plain : {B : Type 0} (kind : Kind B) (line : List ℕ) → ((rest : List ℕ) → line ≡ 60 ∷ rest → ⊥) → marked_line_bound kind line ≡ number_bound kind line false
 marked_plain kind [] other = refl
 marked_plain kind (b ∷ text) other = cond-false (eqb b 60) _ _ (ne_eqb b 60 (λ e. other text (ap (λ x. x ∷ text) e)))
 
 pub bound_no_limit : {B : Type 0} (kind : Kind B) (line : List ℕ) → line ≡ codes "no limit" → line_bound kind line ≡ Ok kind.no_limit
 bound_no_limit kind line e = ap (line_bound kind) e
 
-pub bound_other : {B : Type 0} (kind : Kind B) (line : List ℕ) → (line ≡ codes "no limit" → ⊥) → line_bound kind line ≡ marked_bound kind line
+pub bound_other : {B : Type 0} (kind : Kind B) (line : List ℕ) → (line ≡ codes "no limit" → ⊥) → line_bound kind line ≡ marked_line_bound kind line
 bound_other kind line other =
     cond-false (bytes_eq line (codes "no limit")) _ _ (⊎_elim (λ e. absurd (other ((bytes_eq-Decides line (codes "no limit")).0 e))) (λ e. e) (cases_Bool (bytes_eq line (codes "no limit"))))

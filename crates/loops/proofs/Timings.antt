@@ -14,8 +14,8 @@ use Rattle.bounds.specs.declared.made.MakeError.TheVariants.{OutsideLimits, Mark
 use Rattle.loops.specs.declared.line.LineFault.{LineFault}
 use Rattle.loops.specs.declared.judging.Verdict.{Verdict}
 use Rattle.loops.specs.Lines.{integer, lines}
-use Rattle.loops.specs.Readings.{line_bound, marked_bound, number_bound, bound_of, unmade}
-use Rattle.loops.specs.Loops.{total_after, total, added, Allowed, Meets, Summed, most_lines}
+use Rattle.loops.specs.Readings.{line_bound, marked_line_bound, number_bound, limit_bound, unmade}
+use Rattle.loops.specs.Loops.{total_after, total, added, AllAllowed, Meets, Summed, most_lines}
 use Rattle.loops.proofs.Rounds.{Progress, none_meets}
 
 -- a bound that a line can say: that of a small number, or no limit
@@ -46,7 +46,7 @@ module _ {B : Type 0} (kind : Kind B) where
   made_said c s b true false small marked e =
       ok_said b (kind.number c s) e (numbered c s (leb-true (nat_abs c) largest_number small) (taken s kind.marks marked) refl)
 
-  read_said : (s : Bool) (o : Option ℤ) (b : B) → bound_of kind s o ≡ Ok b → Said kind b
+  read_said : (s : Bool) (o : Option ℤ) (b : B) → limit_bound kind s o ≡ Ok b → Said kind b
   read_said s None b e = err_said b _ e
   read_said s (Some c) b e = made_said c s b (leb (nat_abs c) largest_number) (s && not kind.marks) refl refl e
 
@@ -54,14 +54,14 @@ module _ {B : Type 0} (kind : Kind B) where
   marked_said b x y true p q e = p e
   marked_said b x y false p q e = q e
 
-  unmarked_said : (line : List ℕ) (b : B) → marked_bound kind line ≡ Ok b → Said kind b
+  unmarked_said : (line : List ℕ) (b : B) → marked_line_bound kind line ≡ Ok b → Said kind b
   unmarked_said [] b e = err_said b _ e
   unmarked_said (x ∷ line) b e =
       marked_said b (number_bound kind line true) (number_bound kind (x ∷ line) false) (eqb x 60) (read_said true (integer line) b) (read_said false (integer (x ∷ line)) b) e
 
   line_said : (line : List ℕ) (b : B) → line_bound kind line ≡ Ok b → Said kind b
   line_said line b e =
-      marked_said b (Ok kind.no_limit) (marked_bound kind line) (bytes_eq line (codes "no limit")) (λ h. ok_said b kind.no_limit h (open_ended refl)) (unmarked_said line b) e
+      marked_said b (Ok kind.no_limit) (marked_line_bound kind line) (bytes_eq line (codes "no limit")) (λ h. ok_said b kind.no_limit h (open_ended refl)) (unmarked_said line b) e
 
   pub all_said : (ls : List (List ℕ)) (bs : List B) → map (line_bound kind) ls ≡ map Ok bs → AllSaid kind bs
   all_said ls [] e = none
@@ -83,7 +83,7 @@ data Numbers {B : Type 0} (kind : Kind B) : List B → ℤ → Bool → ℕ → 
 -- bounds with differences on grid k that add up to e
 record Reached {B : Type 0} (kind : Kind B) (k : ℕ) (bs : List B) (e : ℤ) : Type 0 where
   ds : List ℤ
-  allowed : Allowed kind k bs ds
+  allowed : AllAllowed kind k bs ds
   sum : added ds ≡ e
 
 module _ {B : Type 0} (kind : Kind B) (k : ℕ) (grid : 1 ≤ k) where

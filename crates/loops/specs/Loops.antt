@@ -37,19 +37,19 @@ abbrev pub named : {B : Type 0} → ℕ → Result B LineFault → Result B BadL
 named count (Ok sum) = Ok sum
 named count (Err fault) = Err (record { line = count + 1; fault = fault })
 
-abbrev pub verdict_of : {B : Type 0} → Kind B → B → Verdict B
-verdict_of kind sum = record { sum = sum; possible = kind.at_most kind.zero sum }
+abbrev pub loop_verdict : {B : Type 0} → Kind B → B → Verdict B
+loop_verdict kind sum = record { sum = sum; possible = kind.at_most kind.zero sum }
 
 -- each bound allows its difference on grid k, and there are as many of both
-abbrev pub Allowed : {B : Type 0} → Kind B → ℕ → List B → List ℤ → Type 0
-Allowed kind k [] [] = Unit {0}
-Allowed kind k [] (d ∷ ds) = ⊥
-Allowed kind k (b ∷ bs) [] = ⊥
-Allowed kind k (b ∷ bs) (d ∷ ds) = (kind.allows k b d ≡ true) × Allowed kind k bs ds
+abbrev pub AllAllowed : {B : Type 0} → Kind B → ℕ → List B → List ℤ → Type 0
+AllAllowed kind k [] [] = Unit {0}
+AllAllowed kind k [] (d ∷ ds) = ⊥
+AllAllowed kind k (b ∷ bs) [] = ⊥
+AllAllowed kind k (b ∷ bs) (d ∷ ds) = (kind.allows k b d ≡ true) × AllAllowed kind k bs ds
 
 pub record Meets {B : Type 0} (kind : Kind B) (k : ℕ) (bs : List B) (ds : List ℤ) : Type 0 where
   pub grid : 1 ≤ k
-  pub allowed : Allowed kind k bs ds
+  pub allowed : AllAllowed kind k bs ds
   pub closed : added ds ≡ pos 0
 
 -- every line says its bound; the sum is theirs; and the loop is possible just where some differences meet it

@@ -12,18 +12,18 @@ unmade (Ok b) = Ok b
 unmade (Err e) = Err (Unmade e)
 
 -- the bound of a number that was read, which making may refuse
-abbrev pub bound_of : {B : Type 0} → Kind B → Bool → Option ℤ → Result B LineFault
-bound_of kind strict None = Err NotABound
-bound_of kind strict (Some c) = unmade (made kind c strict)
+abbrev pub limit_bound : {B : Type 0} → Kind B → Bool → Option ℤ → Result B LineFault
+limit_bound kind strict None = Err NotABound
+limit_bound kind strict (Some c) = unmade (made kind c strict)
 
 abbrev pub number_bound : {B : Type 0} → Kind B → List ℕ → Bool → Result B LineFault
-number_bound kind text strict = bound_of kind strict (integer text)
+number_bound kind text strict = limit_bound kind strict (integer text)
 
 -- a strict bound begins with <
-abbrev pub marked_bound : {B : Type 0} → Kind B → List ℕ → Result B LineFault
-marked_bound kind [] = Err NotABound
-marked_bound kind (b ∷ text) = cond (b == 60) (number_bound kind text true) (number_bound kind (b ∷ text) false)
+abbrev pub marked_line_bound : {B : Type 0} → Kind B → List ℕ → Result B LineFault
+marked_line_bound kind [] = Err NotABound
+marked_line_bound kind (b ∷ text) = cond (b == 60) (number_bound kind text true) (number_bound kind (b ∷ text) false)
 
 -- the bound that a line says
 abbrev pub line_bound : {B : Type 0} → Kind B → List ℕ → Result B LineFault
-line_bound kind line = cond (bytes_eq line (codes "no limit")) (Ok kind.no_limit) (marked_bound kind line)
+line_bound kind line = cond (bytes_eq line (codes "no limit")) (Ok kind.no_limit) (marked_line_bound kind line)

@@ -1,6 +1,6 @@
 // The verdict on a whole loop.
 ghost use Rattle.std.specs.Prelude.{◌≡◌, ◌+◌, ◌≤◌, Some};
-ghost use Rattle.loops.specs.Loops.{Judged, named, verdict_of, with_bound, most_lines};
+ghost use Rattle.loops.specs.Loops.{Judged, named, loop_verdict, with_bound, most_lines};
 ghost use Rattle.loops.specs.Readings.{line_bound};
 ghost use Rattle.loops.specs.VerdictTexts.{bad_line_text, verdict_text};
 ghost use Rattle.std.specs.Option.{option_map};
@@ -26,7 +26,7 @@ pub struct BadLine {
 
 impl<B: Bound> Verdict<B> {
     fn of(sum: B) -> Verdict<B>
-        ensures { result ≡ verdict_of B.Bound.kind sum }
+        ensures { result ≡ loop_verdict B.Bound.kind sum }
     {
         let possible = B::zero().at_most(sum);
         Verdict { sum, possible }

@@ -1,5 +1,5 @@
 // One line of a loop: the bound that it says, or what is wrong with it.
-ghost use Rattle.loops.specs.FaultTexts.{fault_text};
+ghost use Rattle.loops.specs.FaultTexts.{line_fault_text};
 ghost use Rattle.std.specs.Prelude.{◌≡◌, Some};
 ghost use Rattle.loops.specs.Readings.{line_bound, number_bound};
 ghost use Rattle.loops.specs.declared.line.LineFault.TheVariants.{Unmade};
@@ -46,7 +46,7 @@ pub fn read_bound<B: Bound>(line: &[u8]) -> Result<B, LineFault>
 }
 
 impl fmt::Display for LineFault {
-    ghost output = { λ e. Some (fault_text e) };
+    ghost output = { λ e. Some (line_fault_text e) };
 
     fn fmt<W: fmt::Write>(&self, f: &mut fmt::Formatter<W>) -> fmt::Result {
         match self {

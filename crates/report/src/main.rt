@@ -1,7 +1,7 @@
 // Reads a file from standard input to its end, and prints the one line that it comes to.
 #![tactic(auto)]
 
-use filing::report;
+use file_check::report;
 use std::io::Read;
 
 fn main(rt: HostRuntime) -> anyhow::Result<()> {

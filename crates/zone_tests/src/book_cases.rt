@@ -1,9 +1,9 @@
 // Pages of a book, and what stands against a page's vouching.
 use crate::drafts::{draft, number};
-use books::{Book, Claim, Item, Objection, Page};
 use bounds::{Bound, PlainBound};
 use std::test::Fail;
 use test_records::zone_records::*;
+use zone_pages::{Asked, Book, Claim, Objection, Page};
 
 // A page whose first token has an age from 0 up to this bound; all else has no limit.
 fn page_cells(upper: PlainBound) -> [PlainBound; 81] {
@@ -21,7 +21,7 @@ fn objected(
     pairing: &[u8],
 ) -> Option<u8> {
     let page = Page { cells, places };
-    let item = Item {
+    let item = Asked {
         cells: item,
         places: &[1, 0],
     };

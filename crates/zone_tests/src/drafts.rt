@@ -1,11 +1,11 @@
 // Drafts of records made by hand, and what they hold.
 use bounds::{Bound, PlainBound, bound_of};
-use pages::draft::{DRAFT_CELLS, bound_at};
-use reading::read_zone;
 use std::alloc::Global;
 use std::process::Abort;
 use std::test::Fail;
 use test_records::zone_records::{Listed, record};
+use zone_drafts::draft::{DRAFT_CELLS, bound_at};
+use zone_reading::read_zone;
 
 pub type Draft = [PlainBound; DRAFT_CELLS];
 

@@ -1,12 +1,12 @@
 // The firing predecessor and the matchings of one transition.
 use crate::drafts::{check_bounds, draft};
 use bounds::PlainBound;
-use matchings::{is_matching, next_matching};
-use pages::firing::firing_predecessor;
-use records::packed::PackedNet;
+use net_records::packed::PackedNet;
 use std::alloc::{AllocError, Global};
 use std::test::Fail;
 use test_records::net_records::one_transition;
+use zone_drafts::firing::firing_predecessor;
+use zone_matchings::{is_matching, next_matching};
 
 const A: u8 = 0;
 

@@ -1,12 +1,12 @@
 // Which zones an initial marking satisfies.
 use crate::drafts::draft;
 use bounds::{Bound, MarkedBound};
-use entries::token::InitialToken;
-use markings::{InitialTokens, satisfies};
-use pages::draft::DRAFT_CELLS;
-use reading::read_zone;
+use docket_records::token::InitialToken;
 use std::test::Fail;
 use test_records::zone_records::{BELOW_2, Listed, record};
+use zone_drafts::draft::DRAFT_CELLS;
+use zone_markings::{InitialTokens, satisfies};
+use zone_reading::read_zone;
 
 // Tokens of these ages in place 0.
 fn aged(ages: &[u16]) -> InitialTokens {

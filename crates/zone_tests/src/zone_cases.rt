@@ -1,14 +1,14 @@
 // What records are refused for, normal forms, and the delay predecessor.
 use crate::drafts::{check_bounds, draft};
 use bounds::{Bound, MarkedBound, PlainBound};
-use pages::delay::delay_predecessor;
-use pages::draft::DRAFT_CELLS;
-use reading::read_zone;
-use records::fault::Refusal;
+use net_records::fault::Refusal;
 use std::alloc::Global;
 use std::process::Abort;
 use std::test::Fail;
 use test_records::zone_records::*;
+use zone_drafts::delay::delay_predecessor;
+use zone_drafts::draft::DRAFT_CELLS;
+use zone_reading::read_zone;
 
 // A token in places 2 and 3, of which a net of three places has the first alone.
 const IN_2: [u8; 2] = [1, 0x08];

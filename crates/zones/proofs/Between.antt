@@ -5,8 +5,8 @@ use lib.Signed.{le_z}
 use Rattle.std.proofs.lemmas.Bool.{cond_both, eqb-true, eqb-false, ne_eqb, cond-false}
 use Rattle.bounds.specs.Kinds.{Kind}
 use Rattle.nets.specs.Markings.{Token}
-use Rattle.walks.specs.Walks.{Matrix, lesser, counted, Allowed}
-use Rattle.walks.proofs.Lessers.{at_most_same, lesser_left}
+use Rattle.zone_walks.specs.Walks.{Matrix, lesser, counted, AgesAllowed}
+use Rattle.zone_walks.proofs.Lessers.{at_most_same, lesser_left}
 use Rattle.zones.specs.Zones.{age_of, no_token}
 
 -- every bound between two points allows the difference of their ages
@@ -31,13 +31,13 @@ module _ {B : Type 0} (kind : Kind B) (k : ℕ) (grid : 1 ≤ k) where
   pub zero_allows : (d : ℤ) → le_z d (pos 0) ≡ true → kind.allows k kind.zero d ≡ true
   zero_allows d h = kind.zero_allows k d grid ∙ h
 
-  pub from_counted : (n : ℕ) (d : Matrix B) (age : ℕ → ℤ) → Allowed kind k n (counted kind d) age → Between kind k n d age
+  pub from_counted : (n : ℕ) (d : Matrix B) (age : ℕ → ℤ) → AgesAllowed kind k n (counted kind d) age → Between kind k n d age
   from_counted n d age allowed j i p q apart = kind.larger_allows k (counted kind d j i) (d j i) _ grid (counted_below kind d j i apart) (allowed j i p q)
 
-  pub from_allowed : (n : ℕ) (d : Matrix B) (age : ℕ → ℤ) → Allowed kind k n d age → Between kind k n d age
+  pub from_allowed : (n : ℕ) (d : Matrix B) (age : ℕ → ℤ) → AgesAllowed kind k n d age → Between kind k n d age
   from_allowed n d age allowed j i p q apart = allowed j i p q
 
-  pub to_counted : (n : ℕ) (d : Matrix B) (ts : List Token) → Between kind k n d (age_of ts) → Allowed kind k n (counted kind d) (age_of ts)
+  pub to_counted : (n : ℕ) (d : Matrix B) (ts : List Token) → Between kind k n d (age_of ts) → AgesAllowed kind k n (counted kind d) (age_of ts)
   to_counted n d ts between j i p q = cond_both (eqb j i) kind.zero _ (λ b. kind.allows k b (age_of ts j -ℤ age_of ts i) ≡ true) same other
     where
       same : eqb j i ≡ true → kind.allows k kind.zero (age_of ts j -ℤ age_of ts i) ≡ true

@@ -8,8 +8,8 @@ use Rattle.bounds.specs.Kinds.{Kind, largest_size}
 use Rattle.nets.specs.Markings.{Token, Marking, older}
 use Rattle.nets.specs.Markings.Permuted.{join}
 use Rattle.nets.specs.Runs.{Delayed}
-use Rattle.walks.specs.Walks.{Matrix, counted, Sized, Allowed}
-use Rattle.walks.proofs.Sums.{zero_after}
+use Rattle.zone_walks.specs.Walks.{Matrix, counted, Sized, AgesAllowed}
+use Rattle.zone_walks.proofs.Sums.{zero_after}
 use Rattle.zones.specs.Predecessors.{DelayPredecessor, released}
 use Rattle.zones.specs.Zones.{Zone, Satisfies, SizedZone, points, age_of, no_token}
 use Rattle.zones.proofs.Bags.{Front, front_unmapped}
@@ -58,7 +58,7 @@ module _ {B : Type 0} (kind : Kind B) (k : ℕ) (grid : 1 ≤ k) where
         rest = f.back;
         pairing = f.same;
         places = places ∙ sym is.places;
-        allowed = subst (λ l. Allowed kind k (suc (length l)) (counted kind p.bound) (age_of f.front)) (sym is.places) (form_allows kind k grid (points z) (released kind z.bound) p.bound f.front is.bounds (released_allows (points z) d z.bound f.front count small given));
+        allowed = subst (λ l. AgesAllowed kind k (suc (length l)) (counted kind p.bound) (age_of f.front)) (sym is.places) (form_allows kind k grid (points z) (released kind z.bound) p.bound f.front is.bounds (released_allows (points z) d z.bound f.front count small given));
       }
     where
       f : Front (older d) m s.chosen

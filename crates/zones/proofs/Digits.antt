@@ -1,11 +1,11 @@
--- Matchings by their digits: a number is a matching where each digit fits, and the next one raises a single digit. Assumes nothing.
+-- Matchings by their digits: a number is a matching where each digit digit_fits, and the next one raises a single digit. Assumes nothing.
 use Rattle.std.proofs.Common.{◌≡◌, ℕ, zero, suc, ◌+◌, ◌-◌, ◌*◌, ◌/◌, ◌^◌, ◌<◌, ◌≤◌, min, Bool, true, false, not, ◌&&◌, ◌||◌, eqb, ◌⊎◌, List, [], ◌∷◌, ◌++◌, map, length, get_or, take, drop, sym, refl, ap, ◌∙◌, subst, ap₂, inl, inr, arith}
 use Rattle.std.proofs.lemmas.Bool.{eq-eqb, ne_eqb, false≢true, and_parts, and_from, and_left, and_right, cases_lt, cases_order}
 use Rattle.std.proofs.lemmas.Bool.Decides.{nat_tests}
 use Rattle.std.proofs.Math.Bool.{and-false, and-true, or-false, or-true}
 use Rattle.nets.specs.Nets.{Arc}
 use Rattle.zones.specs.Predecessors.{among, stands, matches, fields, all_zero, digits_of, is_matching}
-use Rattle.zones.specs.Digits.{fits, all_fit, Fitting, raised}
+use Rattle.zones.specs.Digits.{digit_fits, all_fit, Fitting, raised}
 
 -- ---- a digit is not among those before it, or not among those after it
 -- no digit but 0 is among those before
@@ -73,7 +73,7 @@ length_places : {B : Type 0} (arcs : List (Arc B)) → length (map (λ a. a.plac
 length_places [] = refl
 length_places (a ∷ arcs) = ap suc (length_places arcs)
 
--- a number is a matching where each digit fits
+-- a number is a matching where each digit digit_fits
 pub all_fit_matching : {B : Type 0} (places : List ℕ) (arcs : List (Arc B)) (n : ℕ) → length arcs ≤ 4 → all_fit (map (λ a. a.place) arcs) places [] (fields n) ≡ is_matching places arcs n
 all_fit_matching places arcs n few =
     walk_fits places (map (λ a. a.place) arcs) _ _ _ _ (omega (arith, length_places arcs))
@@ -142,54 +142,54 @@ shorter (suc (suc (suc zero))) i n h e = omega arith
 shorter (suc (suc (suc (suc p)))) i n h e = absurd (omega arith)
 
 module _ (arcs places : List ℕ) where
-  spoiled_in : (a b c d p : ℕ) → p < 4 → fits arcs places (take p (a ∷ b ∷ c ∷ d ∷ [])) (get_or (a ∷ b ∷ c ∷ d ∷ []) p 0) ≡ false → all_fit arcs places [] (a ∷ b ∷ c ∷ d ∷ []) ≡ false
+  spoiled_in : (a b c d p : ℕ) → p < 4 → digit_fits arcs places (take p (a ∷ b ∷ c ∷ d ∷ [])) (get_or (a ∷ b ∷ c ∷ d ∷ []) p 0) ≡ false → all_fit arcs places [] (a ∷ b ∷ c ∷ d ∷ []) ≡ false
   spoiled_in a b c d zero h e = and_left _ _ e
-  spoiled_in a b c d (suc zero) h e = and_right (fits arcs places [] a) _ (and_left _ _ e)
+  spoiled_in a b c d (suc zero) h e = and_right (digit_fits arcs places [] a) _ (and_left _ _ e)
   spoiled_in a b c d (suc (suc zero)) h e =
-      and_right (fits arcs places [] a) _ (and_right (fits arcs places (a ∷ []) b) _ (and_left _ (fits arcs places (a ∷ b ∷ c ∷ []) d && true) e))
+      and_right (digit_fits arcs places [] a) _ (and_right (digit_fits arcs places (a ∷ []) b) _ (and_left _ (digit_fits arcs places (a ∷ b ∷ c ∷ []) d && true) e))
   spoiled_in a b c d (suc (suc (suc zero))) h e =
-      and_right (fits arcs places [] a) _ (and_right (fits arcs places (a ∷ []) b) _ (and_right (fits arcs places (a ∷ b ∷ []) c) _ (and_left _ true e)))
+      and_right (digit_fits arcs places [] a) _ (and_right (digit_fits arcs places (a ∷ []) b) _ (and_right (digit_fits arcs places (a ∷ b ∷ []) c) _ (and_left _ true e)))
   spoiled_in a b c d (suc (suc (suc (suc p)))) h e = absurd (omega arith)
 
   -- a digit that does not fit
-  spoiled : (p n : ℕ) → p < 4 → fits arcs places (take p (fields n)) (digit p n) ≡ false → all_fit arcs places [] (fields n) ≡ false
+  spoiled : (p n : ℕ) → p < 4 → digit_fits arcs places (take p (fields n)) (digit p n) ≡ false → all_fit arcs places [] (fields n) ≡ false
   spoiled p n h e = spoiled_in (digit 0 n) (digit 1 n) (digit 2 n) (digit 3 n) p h e
 
-  -- no larger number with the same front fits
+  -- no larger number with the same front digit_fits
   abbrev pub Passed : ℕ → ℕ → Type 0
   Passed p n = (i : ℕ) → n < i → i < 65536 → front p i ≡ front p n → all_fit arcs places [] (fields i) ≡ false
 
-  -- nor one whose digit here is less than a limit up to which none fits
-  passed_below : (p n limit : ℕ) → p < 4 → ((x : ℕ) → digit p n < x → x < limit → fits arcs places (take p (fields n)) x ≡ false) → Passed (suc p) n → (i : ℕ) → n < i → i < 65536 → front p i ≡ front p n → digit p i < limit → all_fit arcs places [] (fields i) ≡ false
+  -- nor one whose digit here is less than a limit up to which none digit_fits
+  passed_below : (p n limit : ℕ) → p < 4 → ((x : ℕ) → digit p n < x → x < limit → digit_fits arcs places (take p (fields n)) x ≡ false) → Passed (suc p) n → (i : ℕ) → n < i → i < 65536 → front p i ≡ front p n → digit p i < limit → all_fit arcs places [] (fields i) ≡ false
   passed_below p n limit h none later i l s e b =
-      elim (parted p i n h l e) [ inl same ↦ later i l s same | inr more ↦ spoiled p i h (subst (λ before. fits arcs places before (digit p i) ≡ false) (sym (same_front p i n (omega arith) e)) (none (digit p i) more b)) ]
+      elim (parted p i n h l e) [ inl same ↦ later i l s same | inr more ↦ spoiled p i h (subst (λ before. digit_fits arcs places before (digit p i) ≡ false) (sym (same_front p i n (omega arith) e)) (none (digit p i) more b)) ]
 
   pub counted_fit : (n count : ℕ) → Fitting arcs places (fields n) count → eqb count 4 ≡ all_fit arcs places [] (fields n)
   counted_fit n count f =
       elim (cases_lt count 4) [ inl l ↦ ne_eqb count 4 (omega arith) ∙ sym (spoiled count n l (f.stop l)) | inr m ↦ let is : count ≡ 4 = omega (arith, f.within) in eq-eqb count 4 is ∙ sym (and_from _ _ (f.before 0 (omega arith)) (and_from _ _ (f.before 1 (omega arith)) (and_from _ _ (f.before 2 (omega arith)) (and_from _ _ (f.before 3 (omega arith)) refl)))) ]
 
-  -- where every digit fits, only the number itself has all of its digits
+  -- where every digit digit_fits, only the number itself has all of its digits
   passed_whole : (n : ℕ) → Passed 4 n
   passed_whole n i l s e = absurd (omega arith)
 
   -- where a digit does not fit, no number with the same digits up to it does
-  passed_spoiled : (p n : ℕ) → p < 4 → fits arcs places (take p (fields n)) (get_or (fields n) p 0) ≡ false → Passed (suc p) n
+  passed_spoiled : (p n : ℕ) → p < 4 → digit_fits arcs places (take p (fields n)) (get_or (fields n) p 0) ≡ false → Passed (suc p) n
   passed_spoiled p n h e i l s same =
       let short = shorter p i n h same in
-      spoiled p i h (subst (λ before. fits arcs places before (digit p i) ≡ false) (sym (same_front p i n (omega arith) short.0)) (subst (λ x. fits arcs places (take p (fields n)) x ≡ false) (sym short.1) e))
+      spoiled p i h (subst (λ before. digit_fits arcs places before (digit p i) ≡ false) (sym (same_front p i n (omega arith) short.0)) (subst (λ x. digit_fits arcs places (take p (fields n)) x ≡ false) (sym short.1) e))
 
   pub passed_first : (n count : ℕ) → Fitting arcs places (fields n) count → Passed (min (count + 1) 4) n
   passed_first n count f =
       elim (cases_lt count 4) [ inl l ↦ let is : suc count ≡ min (count + 1) 4 = omega arith in subst (λ p. Passed p n) is (passed_spoiled count n l (f.stop l)) | inr m ↦ let is : 4 ≡ min (count + 1) 4 = omega arith in subst (λ p. Passed p n) is (passed_whole n) ]
 
-  -- no larger digit fits
-  pub passed_more : (p n : ℕ) → p < 4 → ((x : ℕ) → get_or (fields n) p 0 < x → x < 16 → fits arcs places (take p (fields n)) x ≡ false) → Passed (suc p) n → Passed p n
+  -- no larger digit digit_fits
+  pub passed_more : (p n : ℕ) → p < 4 → ((x : ℕ) → get_or (fields n) p 0 < x → x < 16 → digit_fits arcs places (take p (fields n)) x ≡ false) → Passed (suc p) n → Passed p n
   passed_more p n h none later i l s e = passed_below p n 16 h none later i l s e (digit_small p i h)
 
   pub passed_all : (n : ℕ) → n < 65536 → Passed 0 n → (i : ℕ) → n < i → i < 65536 → all_fit arcs places [] (fields i) ≡ false
   passed_all n small passed i l s = passed i l s (omega arith)
 
-  pub raised_fits : (p n d : ℕ) → p < 4 → d < 16 → ((k : ℕ) → k < p → fits arcs places (take k (fields n)) (get_or (fields n) k 0) ≡ true) → fits arcs places (take p (fields n)) d ≡ true → all_fit arcs places [] (fields (raised n p d)) ≡ true
+  pub raised_fits : (p n d : ℕ) → p < 4 → d < 16 → ((k : ℕ) → k < p → digit_fits arcs places (take k (fields n)) (get_or (fields n) k 0) ≡ true) → digit_fits arcs places (take p (fields n)) d ≡ true → all_fit arcs places [] (fields (raised n p d)) ≡ true
   raised_fits zero n d h b before here =
       let is : fields (raised n 0 d) ≡ (d ∷ 0 ∷ 0 ∷ 0 ∷ []) = four (omega arith) (omega arith) (omega arith) (omega arith) in
       subst (λ ds. all_fit arcs places [] ds ≡ true) (sym is) (and_from _ _ here refl)
@@ -204,7 +204,7 @@ module _ (arcs places : List ℕ) where
       subst (λ ds. all_fit arcs places [] ds ≡ true) (sym is) (and_from _ _ (before 0 (omega arith)) (and_from _ _ (before 1 (omega arith)) (and_from _ _ (before 2 (omega arith)) (and_from _ _ here refl))))
   raised_fits (suc (suc (suc (suc p)))) n d h b before here = absurd (omega arith)
 
-  pub raised_none : (p n d : ℕ) → p < 4 → n < 65536 → d < 16 → get_or (fields n) p 0 < d → ((x : ℕ) → get_or (fields n) p 0 < x → x < d → fits arcs places (take p (fields n)) x ≡ false) → Passed (suc p) n → (i : ℕ) → n < i → i < raised n p d → all_fit arcs places [] (fields i) ≡ false
+  pub raised_none : (p n d : ℕ) → p < 4 → n < 65536 → d < 16 → get_or (fields n) p 0 < d → ((x : ℕ) → get_or (fields n) p 0 < x → x < d → digit_fits arcs places (take p (fields n)) x ≡ false) → Passed (suc p) n → (i : ℕ) → n < i → i < raised n p d → all_fit arcs places [] (fields i) ≡ false
   raised_none p n d h s b l none later i above below =
       let between = raised_between p n d i h s b l above below in
       let small = raised_small p n d h s b l in

@@ -8,9 +8,9 @@ use Rattle.nets.specs.Markings.Permuted.{join}
 use Rattle.nets.specs.Nets.{Arc, Transition, Every, numbered}
 use Rattle.nets.specs.Runs.{Fired}
 use Rattle.nets.proofs.Bags.{permuted_equal, permuted_back, permuted_before, permuted_after, permuted_turned}
-use Rattle.walks.specs.Walks.{Matrix, counted, Allowed}
-use Rattle.walks.proofs.NormalForms.{to_form, none_allowed}
-use Rattle.zones.specs.Predecessors.{FiringPredecessor, matches, narrowed_by, picked, with_tokens, staying, places_of}
+use Rattle.zone_walks.specs.Walks.{Matrix, counted, AgesAllowed}
+use Rattle.zone_walks.proofs.NormalForms.{to_form, none_allowed}
+use Rattle.zones.specs.Predecessors.{FiringPredecessor, matches, narrowed_by, picked, with_tokens, staying, places_at}
 use Rattle.zones.specs.Safety.{CameBy}
 use Rattle.zones.specs.Vouching.{Partner}
 use Rattle.zones.specs.Zones.{Zone, Satisfies, points, age_of, no_token}
@@ -58,26 +58,26 @@ module _ {B : Type 0} (kind : Kind B) (k : ℕ) (grid : 1 ≤ k) where
         let at : suc (length stay) + i ≡ suc (length (map (token_of ts) stay) + i) = omega arith in
         ap before_age at ∙ ap (λ t. pos t.age) (get_or-append-add (map (token_of ts) stay) removed i no_token)
 
-    before_allows : (narrow : Matrix B) → Allowed kind k (points z) narrow (age_of ts) → Allowed kind k (suc (length stay) + length arcs) (with_tokens kind (suc (length stay)) arcs (picked (0 ∷ stay) narrow)) before_age
+    before_allows : (narrow : Matrix B) → AgesAllowed kind k (points z) narrow (age_of ts) → AgesAllowed kind k (suc (length stay) + length arcs) (with_tokens kind (suc (length stay)) arcs (picked (0 ∷ stay) narrow)) before_age
     before_allows narrow allowed = with_tokens_allows kind k grid before_age refl (suc (length stay)) arcs (picked (0 ∷ stay) narrow) (fits_ages before_age (suc (length stay)) arcs removed removed_age fits) kept
       where
-        kept : Allowed kind k (suc (length stay)) (picked (0 ∷ stay) narrow) before_age
+        kept : AgesAllowed kind k (suc (length stay)) (picked (0 ∷ stay) narrow) before_age
         kept j i p q =
             ap (λ y. kind.allows k (picked (0 ∷ stay) narrow j i) (y -ℤ before_age i)) (stay_age j p)
             ∙ ap (λ y. kind.allows k (picked (0 ∷ stay) narrow j i) (age_of ts (get_or (0 ∷ stay) j 0) -ℤ y)) (stay_age i q)
             ∙ allowed (get_or (0 ∷ stay) j 0) (get_or (0 ∷ stay) i 0) (stay_inside j p) (stay_inside i q)
 
-    before_places : map (λ t. t.place) (map (token_of ts) stay ++ removed) ≡ places_of stay z ++ map (λ a. a.place) arcs
+    before_places : map (λ t. t.place) (map (token_of ts) stay ++ removed) ≡ places_at stay z ++ map (λ a. a.place) arcs
     before_places =
         map-append (λ t. t.place) (map (token_of ts) stay) removed
         ∙ ap (λ l. l ++ map (λ t. t.place) removed) (places_chosen ts stay ∙ ap (λ ps. map (λ i. numbered ps i 0) stay) places)
-        ∙ ap (λ l. places_of stay z ++ l) (fits_places arcs removed fits)
+        ∙ ap (λ l. places_at stay z ++ l) (fits_places arcs removed fits)
 
-    before_points : length (places_of stay z ++ map (λ a. a.place) arcs) ≡ length stay + length arcs
+    before_points : length (places_at stay z ++ map (λ a. a.place) arcs) ≡ length stay + length arcs
     before_points =
         let first = length-map stay (λ i. numbered z.places i 0) in
         let last = length-map arcs (λ a. a.place) in
-        let both = length-append (places_of stay z) (map (λ a. a.place) arcs) in
+        let both = length-append (places_at stay z) (map (λ a. a.place) arcs) in
         omega arith
 
   came_found : (t : Transition B) (z : Zone B) (m n : Marking) (f : Fired kind k t m n) (s : Satisfies kind k z n) → Found kind k s.chosen t.outputs (numbers 1 (length s.chosen)) f.rest
@@ -105,7 +105,7 @@ module _ {B : Type 0} (kind : Kind B) (k : ℕ) (grid : 1 ≤ k) where
       stay : List ℕ
       stay = staying g.digits z
 
-      narrowed : Allowed kind k (points z) (counted kind (narrowed_by kind t.outputs g.digits z.bound)) (age_of s.chosen)
+      narrowed : AgesAllowed kind k (points z) (counted kind (narrowed_by kind t.outputs g.digits z.bound)) (age_of s.chosen)
       narrowed = to_counted kind k grid (points z) (narrowed_by kind t.outputs g.digits z.bound) s.chosen (narrowed_by_allows kind k grid (age_of s.chosen) refl (points z) t.outputs g.digits z.bound g.matched (from_counted kind k grid (points z) z.bound (age_of s.chosen) s.allowed))
 
       kept_is : without g.digits (numbers 1 (length s.chosen)) ≡ stay
@@ -131,7 +131,7 @@ module _ {B : Type 0} (kind : Kind B) (k : ℕ) (grid : 1 ≤ k) where
           let given = before_allows z ts f.removed stay s.places partners t.inputs f.takes is.narrow narrow in
           let size : length p.places ≡ length stay + length t.inputs = ap length is.places ∙ before_points z ts f.removed stay s.places partners t.inputs f.takes in
           let count : suc (length stay) + length t.inputs ≡ points p = omega (arith, size) in
-          let all : Allowed kind k (points p) added (age_of chosen) = subst (λ c. Allowed kind k c added (age_of chosen)) count given in
+          let all : AgesAllowed kind k (points p) added (age_of chosen) = subst (λ c. AgesAllowed kind k c added (age_of chosen)) count given in
           record {
             chosen = chosen;
             rest = g.rest;

@@ -4,9 +4,9 @@ use Rattle.std.proofs.lemmas.List.{length-map}
 use Rattle.bounds.specs.Kinds.{Kind, largest_size}
 use Rattle.nets.specs.Markings.{Token, Marking, Permuted}
 use Rattle.nets.specs.Markings.Permuted.{join}
-use Rattle.walks.specs.Walks.{Matrix, counted, NormalForm, Allowed}
-use Rattle.walks.proofs.Again.{counted_sized}
-use Rattle.walks.proofs.NormalForms.{to_form, none_allowed, normal_below}
+use Rattle.zone_walks.specs.Walks.{Matrix, counted, NormalForm, AgesAllowed}
+use Rattle.zone_walks.proofs.Again.{counted_sized}
+use Rattle.zone_walks.proofs.NormalForms.{to_form, none_allowed, normal_below}
 use Rattle.zones.specs.Zones.{Zone, Satisfies, Inconsistent, NormalOf, SizedZone, points, age_of}
 use Rattle.zones.proofs.Between.{Between, from_counted, from_allowed, to_counted, counted_below}
 
@@ -15,7 +15,7 @@ module _ {B : Type 0} (kind : Kind B) (k : ℕ) (grid : 1 ≤ k) where
   satisfied_from z m n p s = record { chosen = s.chosen; rest = s.rest; pairing = join p s.pairing; places = s.places; allowed = s.allowed }
 
   -- ages that meet bounds meet their normal form
-  pub form_allows : (n : ℕ) (x y : Matrix B) (ts : List Token) → NormalForm kind n (counted kind x) y → Between kind k n x (age_of ts) → Allowed kind k n (counted kind y) (age_of ts)
+  pub form_allows : (n : ℕ) (x y : Matrix B) (ts : List Token) → NormalForm kind n (counted kind x) y → Between kind k n x (age_of ts) → AgesAllowed kind k n (counted kind y) (age_of ts)
   form_allows n x y ts form between =
       to_counted kind k grid n y ts (from_allowed kind k grid n y (age_of ts) (to_form kind n k (counted kind x) y (age_of ts) grid form (to_counted kind k grid n x ts between)))
 
@@ -26,7 +26,7 @@ module _ {B : Type 0} (kind : Kind B) (k : ℕ) (grid : 1 ≤ k) where
         rest = s.rest;
         pairing = s.pairing;
         places = s.places ∙ sym form.places;
-        allowed = subst (λ l. Allowed kind k (suc (length l)) (counted kind y.bound) (age_of s.chosen)) (sym form.places) (form_allows (points z) z.bound y.bound s.chosen form.bounds (from_counted kind k grid (points z) z.bound (age_of s.chosen) s.allowed));
+        allowed = subst (λ l. AgesAllowed kind k (suc (length l)) (counted kind y.bound) (age_of s.chosen)) (sym form.places) (form_allows (points z) z.bound y.bound s.chosen form.bounds (from_counted kind k grid (points z) z.bound (age_of s.chosen) s.allowed));
       }
 
   pub form_satisfies : (z y : Zone B) (m : Marking) → SizedZone kind largest_size z → NormalOf kind z y → Satisfies kind k y m → Satisfies kind k z m

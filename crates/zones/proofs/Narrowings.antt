@@ -6,7 +6,7 @@ use Rattle.bounds.specs.Kinds.{Kind}
 use Rattle.bounds.specs.Ranges.{holds}
 use Rattle.bounds.specs.declared.range.Range.{Range}
 use Rattle.nets.specs.Nets.{Arc}
-use Rattle.walks.specs.Walks.{Matrix, Allowed}
+use Rattle.zone_walks.specs.Walks.{Matrix, AgesAllowed}
 use Rattle.zones.specs.Predecessors.{narrowed, narrowed_by, with_token, with_tokens}
 use Rattle.zones.proofs.Between.{Between, lesser_allows}
 use Rattle.zones.proofs.Matchings.{Matched}
@@ -56,7 +56,7 @@ module _ {B : Type 0} (kind : Kind B) (k : ℕ) (grid : 1 ≤ k) (age : ℕ → 
       narrowed_by_allows n arcs ds (narrowed kind (suc d) a.range x) matched.1 (narrowed_allows n (suc d) a.range x (matched_holds a.range d matched.0) between)
 
   -- ---- tokens added
-  with_token_allows : (n : ℕ) (range : Range B) (x : Matrix B) → holds kind k range (age n) ≡ true → Allowed kind k n x age → Allowed kind k (suc n) (with_token kind n range x) age
+  with_token_allows : (n : ℕ) (range : Range B) (x : Matrix B) → holds kind k range (age n) ≡ true → AgesAllowed kind k n x age → AgesAllowed kind k (suc n) (with_token kind n range x) age
   with_token_allows n range x held allowed j i p q =
       let d = age j -ℤ age i in
       cond_both (eqb j n && eqb i 0) _ _ (λ b. kind.allows k b d ≡ true) (λ e. upper_allows range n j i held e)
@@ -70,7 +70,7 @@ module _ {B : Type 0} (kind : Kind B) (k : ℕ) (grid : 1 ≤ k) (age : ℕ → 
           let last = eqb-false i n parts.1 in
           allowed j i (omega arith) (omega arith)
 
-  pub with_tokens_allows : (n : ℕ) (arcs : List (Arc B)) (x : Matrix B) → Aged kind k age n arcs → Allowed kind k n x age → Allowed kind k (n + length arcs) (with_tokens kind n arcs x) age
+  pub with_tokens_allows : (n : ℕ) (arcs : List (Arc B)) (x : Matrix B) → Aged kind k age n arcs → AgesAllowed kind k n x age → AgesAllowed kind k (n + length arcs) (with_tokens kind n arcs x) age
   with_tokens_allows n [] x aged allowed j i p q = allowed j i (omega arith) (omega arith)
   with_tokens_allows n (a ∷ arcs) x aged allowed j i p q =
       with_tokens_allows (suc n) arcs (with_token kind n a.range x) aged.1 (with_token_allows n a.range x aged.0 allowed) j i (omega arith) (omega arith)

@@ -6,19 +6,19 @@ use Rattle.std.specs.Prelude.{◌≡◌, ℕ, zero, suc, ◌+◌, ◌*◌, ◌/�
 use Rattle.zones.specs.Predecessors.{among, stands}
 
 -- the digit is 0, or a token in the arc's place that no arc before has
-abbrev pub fits : List ℕ → List ℕ → List ℕ → ℕ → Bool
-fits arcs places before digit =
+abbrev pub digit_fits : List ℕ → List ℕ → List ℕ → ℕ → Bool
+digit_fits arcs places before digit =
     (digit == 0) || (nat_lt (length before) (length arcs) && (stands places digit (slice_index arcs (length before)) && not (among digit before)))
 
 abbrev pub all_fit : List ℕ → List ℕ → List ℕ → List ℕ → Bool
 all_fit arcs places before [] = true
-all_fit arcs places before (d ∷ ds) = fits arcs places before d && all_fit arcs places (before ++ (d ∷ [])) ds
+all_fit arcs places before (d ∷ ds) = digit_fits arcs places before d && all_fit arcs places (before ++ (d ∷ [])) ds
 
 -- so many digits from the first on fit, and the one after them does not
 pub record Fitting (arcs places digits : List ℕ) (count : ℕ) : Type 0 where
   pub within : count ≤ length digits
-  pub before : (k : ℕ) → k < count → fits arcs places (take k digits) (slice_index digits k) ≡ true
-  pub stop : count < length digits → fits arcs places (take count digits) (slice_index digits count) ≡ false
+  pub before : (k : ℕ) → k < count → digit_fits arcs places (take k digits) (slice_index digits k) ≡ true
+  pub stop : count < length digits → digit_fits arcs places (take count digits) (slice_index digits count) ≡ false
 
 -- the number with another digit at a position, and 0 at each later one
 abbrev pub raised : ℕ → ℕ → ℕ → ℕ

@@ -7,7 +7,7 @@ use Rattle.std.specs.Prelude.{◌≡◌, ℕ, zero, suc, ◌/◌, ◌%◌, Bool,
 use Rattle.bounds.specs.Kinds.{Kind}
 use Rattle.bounds.specs.declared.range.Range.{Range}
 use Rattle.nets.specs.Nets.{Arc, Transition, numbered}
-use Rattle.walks.specs.Walks.{Matrix, lesser, counted, Negative, NormalForm}
+use Rattle.zone_walks.specs.Walks.{Matrix, lesser, counted, Negative, NormalForm}
 use Rattle.zones.specs.Zones.{Zone, points}
 
 -- ---- a delay
@@ -76,8 +76,8 @@ staying gone z = others gone 1 (length z.places)
 abbrev pub picked : {B : Type 0} → List ℕ → Matrix B → Matrix B
 picked kept x j i = x (slice_index kept j) (slice_index kept i)
 
-abbrev pub places_of : {B : Type 0} → List ℕ → Zone B → List ℕ
-places_of tokens z = map (λ i. numbered z.places i 0) tokens
+abbrev pub places_at : {B : Type 0} → List ℕ → Zone B → List ℕ
+places_at tokens z = map (λ i. numbered z.places i 0) tokens
 
 -- ---- adding tokens
 -- point n, with a range and no limit against the other tokens
@@ -98,5 +98,5 @@ pub record FiringPredecessor {B : Type 0} (kind : Kind B) (t : Transition B) (ma
   pub possible : Void kind t matching z → ⊥
   pub narrow : Matrix B
   pub narrows : NormalForm kind (points z) (counted kind (narrowed_by kind t.outputs matching z.bound)) narrow
-  pub places : p.places ≡ places_of (staying matching z) z ++ map (λ a. a.place) t.inputs
+  pub places : p.places ≡ places_at (staying matching z) z ++ map (λ a. a.place) t.inputs
   pub bounds : NormalForm kind (points p) (counted kind (with_tokens kind (suc (length (staying matching z))) t.inputs (picked (0 ∷ staying matching z) narrow))) p.bound

@@ -5,7 +5,7 @@
 use Rattle.std.specs.Prelude.{◌≡◌, ℕ, zero, suc, List, ◌++◌, map, length, ℤ, pos, slice_index_or}
 use Rattle.bounds.specs.Kinds.{Kind}
 use Rattle.nets.specs.Markings.{Token, Marking, Permuted}
-use Rattle.walks.specs.Walks.{Matrix, counted, Negative, NormalForm, Sized, Still, Allowed}
+use Rattle.zone_walks.specs.Walks.{Matrix, counted, Negative, NormalForm, Sized, Still, AgesAllowed}
 
 -- bound j i limits the age of point j less the age of point i; none is asked for where j is i
 pub record Zone (B : Type 0) : Type 0 where
@@ -29,7 +29,7 @@ pub record Satisfies {B : Type 0} (kind : Kind B) (k : ℕ) (z : Zone B) (m : Ma
   pub rest : Marking
   pub pairing : Permuted m (chosen ++ rest)
   pub places : map (λ t. t.place) chosen ≡ z.places
-  pub allowed : Allowed kind k (points z) (counted kind z.bound) (age_of chosen)
+  pub allowed : AgesAllowed kind k (points z) (counted kind z.bound) (age_of chosen)
 
 -- some closed walk sums below zero
 abbrev pub Inconsistent : {B : Type 0} → Kind B → Zone B → Type 0

@@ -1,7 +1,7 @@
 use Rattle.std.proofs.Common.{◌/◌, ◌%◌, map, ap, get_or, length, rules, ◌∙◌}
-use Rattle.cells.specs.Cells.{in_draft}
-use Rattle.cells.specs.Drafts.{draft_zone}
-use Rattle.seals.specs.Calls.{cell_of, cells_of, with_page}
+use Rattle.zone_cells.specs.Cells.{in_draft}
+use Rattle.zone_cells.specs.Drafts.{draft_zone}
+use Rattle.docket_rules.specs.Calls.{cell_of, cells_of, with_page}
 use Rattle.std.specs.List.{range_with_len}
 use Rattle.docket.proofs.Parts.{padded}
 use Rattle.docket.proofs.memory.write_page.Goals as goal

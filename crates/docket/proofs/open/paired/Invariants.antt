@@ -1,6 +1,6 @@
 use Rattle.std.proofs.Common.{◌≡◌, ◌++◌, drop}
 use Rattle.arrayvec.specs.ArrayVec.{array_vec_len}
-use Rattle.seals.specs.Calls.{initial_tokens}
+use Rattle.docket_rules.specs.Calls.{initial_tokens}
 use Rattle.docket.proofs.open.paired.Given as goal
 
 abbrev pub invariant-loop-place : goal.invariant-loop-place

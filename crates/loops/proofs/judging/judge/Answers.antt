@@ -1,7 +1,7 @@
 use Rattle.std.proofs.Common.{◌≡◌, ◌+◌, ◌<◌, length, sym, refl, ap, ◌∙◌, subst, inl, inr, arith}
 use Rattle.std.proofs.lemmas.Result.{err_from_is_err_and}
 use Rattle.std.proofs.lemmas.Bool.{eqb-false, eqb-true}
-use Rattle.loops.specs.Loops.{with_bound, verdict_of}
+use Rattle.loops.specs.Loops.{with_bound, loop_verdict}
 use Rattle.loops.specs.Readings.{line_bound}
 use Rattle.loops.proofs.Rounds.{Progress, progress_none, progress_added, named_sum, named_fault, faulty}
 use Rattle.loops.proofs.Timings.{done}
@@ -35,7 +35,7 @@ pub returns-then-is_empty-2 : goal.returns-then-is_empty-2
 returns-then-is_empty-2 g c =
     let rest = c.loop-count.rest.now in
     let end : length rest ≡ 0 = eqb-true (length rest) 0 (sym c.if-is_empty-2.ensures) in
-    rw c.of.ensures (done g.B.Bound.kind c.args.text.now rest (verdict_of g.B.Bound.kind c.loop-count.sum) c.loop-count.count end c.loop-count.invariant refl)
+    rw c.of.ensures (done g.B.Bound.kind c.args.text.now rest (loop_verdict g.B.Bound.kind c.loop-count.sum) c.loop-count.count end c.loop-count.invariant refl)
 
 pub returns-else-is_empty-2 : goal.returns-else-is_empty-2
 returns-else-is_empty-2 g c =

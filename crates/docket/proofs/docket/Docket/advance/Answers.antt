@@ -3,7 +3,7 @@ use Rattle.docket.specs.Dockets.{world_of}
 use Rattle.docket.proofs.Moved.{advanced}
 use Rattle.docket.proofs.docket.Docket.advance.Goals as goal
 use Rattle.docket.proofs.docket.Docket.advance.Goals.{in-Some, in-None}
-use Rattle.seals.specs.Calls.{stage_of}
+use Rattle.docket_rules.specs.Calls.{stage_of}
 
 pub returns : goal.returns
 returns g c =

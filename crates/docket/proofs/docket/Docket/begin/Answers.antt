@@ -1,9 +1,9 @@
 use Rattle.std.proofs.Common.{◌++◌, ◌∷◌, [], length, Ok, refl, sym, ap, ◌∙◌, subst}
-use Rattle.cells.specs.Drafts.{draft_zone}
-use Rattle.entries.specs.ZoneRecords.{zone_of}
-use Rattle.seals.specs.Calls.{initial_tokens, with_page, cells_of, places_of}
-use Rattle.seals.specs.Tables.{record_rows}
-use Rattle.seals.specs.declared.stage.Stage.TheVariants.{Listing}
+use Rattle.zone_cells.specs.Drafts.{draft_zone}
+use Rattle.docket_records.specs.ZoneRecords.{zone_of}
+use Rattle.docket_rules.specs.Calls.{initial_tokens, with_page, cells_of, page_places_of}
+use Rattle.docket_rules.specs.Tables.{record_rows}
+use Rattle.docket_rules.specs.declared.stage.Stage.TheVariants.{Listing}
 use Rattle.docket.proofs.Given.{Given, given}
 use Rattle.docket.proofs.Records.{page_written, recorded}
 use Rattle.docket.proofs.Rows.{not_refused}
@@ -32,6 +32,6 @@ returns-clause-tried g c =
                 ∙ ap (λ counts. record { stage = Listing; initial = initial_tokens c.args.initial_places.now c.args.initial_ages.now; counts = counts; taken = 0 }) counted;
             page = page_written kind z draft tokens.items h.formed h.places 0 _ _
                 (c.write_page.ensures.cells ∙ ap (λ ps. with_page 81 0 (cells_of kind (draft_zone kind ps draft)) c.args.cells.now) c.deref.ensures.0)
-                (c.write_page.ensures.places ∙ ap (λ ps. with_page 8 0 (places_of (draft_zone kind ps draft)) c.args.places.now) c.deref.ensures.0);
+                (c.write_page.ensures.places ∙ ap (λ ps. with_page 8 0 (page_places_of (draft_zone kind ps draft)) c.args.places.now) c.deref.ensures.0);
           };
     }

@@ -1,12 +1,12 @@
 use Rattle.std.proofs.Common.{◌++◌, ◌∷◌, [], length, Ok, Err, refl, sym, ap, ◌∙◌, subst, inl, inr}
 use Rattle.std.proofs.lemmas.Bool.{false≢true}
-use Rattle.cells.specs.Drafts.{draft_zone}
-use Rattle.entries.specs.ZoneRecords.{zone_of}
-use Rattle.markings.specs.Initial.{marking_of}
-use Rattle.refusals.specs.declared.refusal.CallRefusal.TheVariants.{Covered}
-use Rattle.seals.specs.Calls.{with_page, cells_of, places_of}
-use Rattle.seals.specs.Tables.{row}
-use Rattle.seals.specs.declared.stage.Stage.TheVariants.{Listing}
+use Rattle.zone_cells.specs.Drafts.{draft_zone}
+use Rattle.docket_records.specs.ZoneRecords.{zone_of}
+use Rattle.zone_markings.specs.Initial.{marking_of}
+use Rattle.docket_refusals.specs.declared.refusal.CallRefusal.TheVariants.{Covered}
+use Rattle.docket_rules.specs.Calls.{with_page, cells_of, page_places_of}
+use Rattle.docket_rules.specs.Tables.{row}
+use Rattle.docket_rules.specs.declared.stage.Stage.TheVariants.{Listing}
 use Rattle.zones.specs.Zones.{Satisfies}
 use Rattle.docket.proofs.Records.{form_covers, page_written, recorded, zone_covers}
 use Rattle.docket.proofs.Rows.{not_refused, not_taken}
@@ -49,6 +49,6 @@ returns-clause-tried g c =
                 ∙ ap (λ counts. record { stage = Listing; initial = self.initial.items; counts = counts; taken = self.taken }) counted;
             page = page_written kind z draft tokens.items h.formed h.places (length self.counts.items) _ _
                 (c.write_page.ensures.cells ∙ ap (λ ps. with_page 81 c.len-number.result (cells_of kind (draft_zone kind ps draft)) c.args.cells.now) c.deref-2.ensures.0 ∙ ap (λ p. with_page 81 p (cells_of kind form) c.args.cells.now) c.len-number.ensures.value)
-                (c.write_page.ensures.places ∙ ap (λ ps. with_page 8 c.len-number.result (places_of (draft_zone kind ps draft)) c.args.places.now) c.deref-2.ensures.0 ∙ ap (λ p. with_page 8 p (places_of form) c.args.places.now) c.len-number.ensures.value);
+                (c.write_page.ensures.places ∙ ap (λ ps. with_page 8 c.len-number.result (page_places_of (draft_zone kind ps draft)) c.args.places.now) c.deref-2.ensures.0 ∙ ap (λ p. with_page 8 p (page_places_of form) c.args.places.now) c.len-number.ensures.value);
           };
     }

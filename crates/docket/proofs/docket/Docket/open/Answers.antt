@@ -1,7 +1,7 @@
 use Rattle.std.proofs.Common.{◌≡◌, ℕ, ◌&&◌, eqb, List, ◌++◌, length, replicate, cond, true, refl, sym, ap, ◌∙◌, subst, inr, rules}
 use Rattle.std.proofs.lemmas.Bool.{eq-eqb, false≢true}
-use Rattle.seals.specs.Tables.{Answers, Row, initial_rows, is_blank, record_rows}
-use Rattle.seals.specs.declared.stage.Stage.TheVariants.{Blank}
+use Rattle.docket_rules.specs.Tables.{Answers, Row, initial_rows, is_blank, record_rows}
+use Rattle.docket_rules.specs.declared.stage.Stage.TheVariants.{Blank}
 use Rattle.docket.proofs.Rows.{late}
 use Rattle.docket.proofs.docket.Docket.open.Goals as goal
 

@@ -1,10 +1,10 @@
 use Rattle.std.proofs.Common.{◌≡◌, ℕ, List, ◌∷◌, [], ◌++◌, length, replicate, cond, true, refl, sym, ap, ◌∙◌, subst, inr, rules, arith}
 use Rattle.std.proofs.lemmas.Bool.{eq-eqb, false≢true}
-use Rattle.entries.specs.ZoneRecords.{zone_of}
-use Rattle.markings.specs.Initial.{marking_of}
-use Rattle.refusals.specs.declared.refusal.CallRefusal.TheVariants.{Covered}
-use Rattle.seals.specs.Tables.{Answers, Row, is_listing, record_rows, row}
-use Rattle.seals.specs.declared.stage.Stage.TheVariants.{Listing}
+use Rattle.docket_records.specs.ZoneRecords.{zone_of}
+use Rattle.zone_markings.specs.Initial.{marking_of}
+use Rattle.docket_refusals.specs.declared.refusal.CallRefusal.TheVariants.{Covered}
+use Rattle.docket_rules.specs.Tables.{Answers, Row, is_listing, record_rows, row}
+use Rattle.docket_rules.specs.declared.stage.Stage.TheVariants.{Listing}
 use Rattle.zones.specs.Zones.{Satisfies}
 use Rattle.docket.proofs.Rows.{late}
 use Rattle.docket.proofs.docket.Docket.post.Goals as goal

@@ -1,0 +1,48 @@
+// Records of one size: fields of bits, and spare bits that are zero.
+ghost use Rattle.docket_records.specs.Records.{placed, read_as};
+ghost use Rattle.net_records.specs.Parts.{Moved};
+ghost use Rattle.std.specs.Prelude.{◌≡◌, ◌<◌, ℕ, Bool, List, take};
+
+use crate::fault::{EntryFault, EntryRefusal};
+use net_records::fault::Fault;
+use net_records::reader::{Part, Reader};
+
+pub trait Record: Sized {
+    ghost SIZE: { ℕ };
+
+    ghost some_bytes: { 0 < SIZE };
+
+    // whether bytes have a spare bit set, and what their fields say
+    ghost spare: { List ℕ → Bool };
+
+    ghost said: { List ℕ → Self };
+
+    const SIZE: usize;
+
+    fn spare_set(bytes: &[u8]) -> bool
+        ensures { result ≡ spare bytes.now };
+
+    fn fields(bytes: &[u8]) -> Self
+        ensures { result ≡ said bytes.now };
+
+    // The record that the bytes are, or what is wrong with them, lowest number first.
+    final fn read(bytes: &[u8]) -> Result<Self, EntryRefusal>
+        ensures { result ≡ read_as SIZE spare said bytes.now }
+    {
+        if bytes.len() != Self::SIZE {
+            return Err(EntryRefusal::WrongLength);
+        }
+        if Self::spare_set(bytes) {
+            return Err(EntryRefusal::NotZero);
+        }
+        Ok(Self::fields(bytes))
+    }
+    // The record that comes next. Where it is refused, its fault has its number.
+    final fn next(reader: &mut Reader<'_>) -> Result<Self, EntryFault>
+        ensures answer { result ≡ placed reader.old.next (read_as SIZE spare said (take SIZE reader.old.rest.now)) }
+        ensures moved { Moved SIZE reader.old.rest.now reader.old.next result reader.new.rest.now reader.new.next }
+    {
+        let Part { bytes, at } = reader.part(Self::SIZE)?;
+        Self::read(bytes).map_err(|refusal| Fault { refusal, at })
+    }
+}

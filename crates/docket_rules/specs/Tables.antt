@@ -1,0 +1,162 @@
+-- When each call is refused, and by which refusal.
+--     row       a refusal and the condition that brings it about
+--     table     the rows of a call in the order in which they are tested: the first that holds is the answer, and none is "taken"
+--     lent      the scratch page that the call is lent
+-- Assumes nothing.
+use Rattle.std.specs.Prelude.{◌≡◌, ℕ, Bool, true, false, ◌&&◌, ◌||◌, ◌⊎◌, List, [], ◌∷◌, ◌++◌, length, take, Ok, Err, Result, cond, ◌==◌, nat_le, nat_lt, slice_index}
+use Rattle.std.specs.List.{list_any}
+use Rattle.zone_pages.specs.Objections.{objection_of}
+use Rattle.zone_pages.specs.declared.objections.Objection.{Objection}
+use Rattle.zone_pages.specs.declared.objections.Objection.TheVariants.{Partner, Place, Bound}
+use Rattle.bounds.specs.Kinds.{Kind}
+use Rattle.docket_dues.specs.Answered.{ItemZone, VoidItem}
+use Rattle.docket_dues.specs.Dues.{target_item}
+use Rattle.docket_dues.specs.declared.item.Item.{Item}
+use Rattle.docket_records.specs.Vouchers.{unused_set, voucher_of, voucher_spare}
+use Rattle.docket_records.specs.ZoneRecords.{mark_under_plain, no_such_place, not_zero, too_many, wrong_length, zone_of}
+use Rattle.docket_records.specs.declared.fault.EntryRefusal.TheVariants.{WrongLength, NotZero, TooMany, NoSuchPlace, MarkUnderPlain, Inconsistent as NotConsistent}
+use Rattle.docket_records.specs.declared.voucher.Voucher.{Voucher}
+use Rattle.zone_markings.specs.Initial.{marking_of}
+use Rattle.nets.specs.Nets.{Net}
+use Rattle.docket_refusals.specs.declared.refusal.CallRefusal.{CallRefusal}
+use Rattle.docket_refusals.specs.declared.refusal.CallRefusal.TheVariants.{WrongStage, WrongMemory, FullList, Entry, Covered, NotVoid, VoidItem as IsVoid, NoSuchZone, Objected}
+use Rattle.docket_rules.specs.Worlds.{State, World, in_list, listed_count, listed_pages, page_of, whole}
+use Rattle.docket_rules.specs.declared.stage.Stage.{Stage}
+use Rattle.docket_rules.specs.declared.stage.Stage.TheVariants.{Blank, Listing, Proving, Sealed}
+use Rattle.zones.specs.Zones.{Zone, Inconsistent, Satisfies}
+
+-- ---- tables
+pub record Row : Type 1 where
+  pub refusal : CallRefusal
+  pub when : Type 0
+
+abbrev pub row : CallRefusal → Type 0 → Row
+row refusal when = record { refusal = refusal; when = when }
+
+abbrev pub Answer : Type 0
+Answer = Result (Unit {0}) CallRefusal
+
+abbrev pub Answers : List Row → Answer → Type 0
+Answers [] answer = answer ≡ Ok tt
+Answers (r ∷ rows) answer = (r.when × (answer ≡ Err r.refusal)) ⊎ ((r.when → ⊥) × Answers rows answer)
+
+-- one of these rows is the answer, or none of them holds
+abbrev pub Begins : List Row → Answer → Type 0
+Begins [] answer = Unit {0}
+Begins (r ∷ rows) answer = (r.when × (answer ≡ Err r.refusal)) ⊎ ((r.when → ⊥) × Begins rows answer)
+
+-- ---- stages
+abbrev pub is_blank : Stage → Bool
+is_blank Blank = true
+is_blank Listing = false
+is_blank (Proving d) = false
+is_blank Sealed = false
+
+abbrev pub is_listing : Stage → Bool
+is_listing Blank = false
+is_listing Listing = true
+is_listing (Proving d) = false
+is_listing Sealed = false
+
+abbrev pub is_proving : Stage → Bool
+is_proving Blank = false
+is_proving Listing = false
+is_proving (Proving d) = true
+is_proving Sealed = false
+
+abbrev pub is_sealed : Stage → Bool
+is_sealed Blank = false
+is_sealed Listing = false
+is_sealed (Proving d) = false
+is_sealed Sealed = true
+
+-- the first item that is due; only asked for in proving
+abbrev pub due_in : Stage → Item
+due_in Blank = target_item
+due_in Listing = target_item
+due_in (Proving d) = d
+due_in Sealed = target_item
+
+-- ---- the record of a zone
+abbrev pub record_rows : {B : Type 0} → Kind B → (net_places : ℕ) → (bytes : List ℕ) → List Row
+record_rows kind net_places bytes =
+    row (Entry WrongLength) (wrong_length bytes ≡ true)
+    ∷ row (Entry NotZero) (not_zero bytes ≡ true)
+    ∷ row (Entry TooMany) (too_many bytes ≡ true)
+    ∷ row (Entry NoSuchPlace) (no_such_place net_places bytes ≡ true)
+    ∷ row (Entry MarkUnderPlain) (mark_under_plain kind.marks bytes ≡ true)
+    ∷ row (Entry NotConsistent) (Inconsistent kind (zone_of kind bytes))
+    ∷ []
+
+-- ---- open: a place and an age for each initial token, and the target's record
+abbrev pub too_old : ℕ → Bool
+too_old age = nat_lt 32767 age
+
+abbrev pub initial_rows : (net_places : ℕ) → (places ages : List ℕ) → List Row
+initial_rows net_places places ages =
+    row (Entry TooMany) (nat_lt 8 (length places) || list_any too_old ages ≡ true)
+    ∷ row (Entry NoSuchPlace) (list_any (nat_le net_places) places ≡ true)
+    ∷ []
+
+abbrev pub open_table : {B : Type 0} → Kind B → Net B → World B → (lent : List B) → (places ages target : List ℕ) → List Row
+open_table kind net w lent places ages target =
+    row WrongStage (is_blank w.state.stage ≡ false)
+    ∷ row WrongMemory (whole w lent && length places == length ages ≡ false)
+    ∷ initial_rows net.places places ages ++ record_rows kind net.places target
+
+-- ---- post: a listed zone's record
+abbrev pub post_table : {B : Type 0} → Kind B → Net B → World B → (lent : List B) → (zone : List ℕ) → List Row
+post_table kind net w lent zone =
+    row WrongStage (is_listing w.state.stage ≡ false)
+    ∷ row WrongMemory (whole w lent ≡ false)
+    ∷ row FullList (listed_count w.state ≡ 63)
+    ∷ record_rows kind net.places zone ++ row Covered (Satisfies kind 1 (zone_of kind zone) (marking_of w.state.initial)) ∷ []
+
+-- ---- close
+abbrev pub close_table : State → List Row
+close_table s = row WrongStage (is_listing s.stage ≡ false) ∷ []
+
+-- ---- discharge: six bytes for the first item that is due
+-- how many partners a voucher uses: one for each token of its listed zone; one outside the list uses all eight
+abbrev pub partners_used : State → Voucher → ℕ
+partners_used s v = cond (in_list s v.zone) (slice_index s.counts v.zone) 8
+
+abbrev pub pairing_of : State → Voucher → List ℕ
+pairing_of s v = take (slice_index s.counts v.zone) v.partners
+
+abbrev pub IsVoidItem : {B : Type 0} → Kind B → Net B → World B → Item → Type 0
+IsVoidItem kind net w d = VoidItem kind net (page_of kind w 0) (listed_pages kind w) d.zone d.transition d.matching
+
+abbrev pub Asks : {B : Type 0} → Kind B → Net B → World B → Item → Zone B → Type 0
+Asks kind net w d asked = ItemZone kind net (page_of kind w 0) (listed_pages kind w) d.zone d.transition d.matching asked
+
+-- this objection stands against the zone that the voucher names
+pub record Against {B : Type 0} (kind : Kind B) (net : Net B) (w : World B) (d : Item) (v : Voucher) (objection : Objection) : Type 0 where
+  pub asked : Zone B
+  pub asks : Asks kind net w d asked
+  pub stands : objection_of kind (page_of kind w v.zone) asked (pairing_of w.state v) ≡ Err objection
+
+abbrev pub voucher_rows : State → (bytes : List ℕ) → List Row
+voucher_rows s bytes =
+    row (Entry WrongLength) (length bytes == 6 ≡ false)
+    ∷ row (Entry NotZero) (voucher_spare bytes || unused_set (voucher_of bytes) (partners_used s (voucher_of bytes)) ≡ true)
+    ∷ []
+
+abbrev pub item_rows : {B : Type 0} → Kind B → Net B → World B → Item → Voucher → List Row
+item_rows kind net w d v =
+    row NotVoid ((v.void ≡ true) × (IsVoidItem kind net w d → ⊥))
+    ∷ row IsVoid ((v.void ≡ false) × IsVoidItem kind net w d)
+    ∷ row NoSuchZone ((v.void ≡ false) × (in_list w.state v.zone ≡ false))
+    ∷ row (Objected Partner) ((v.void ≡ false) × Against kind net w d v Partner)
+    ∷ row (Objected Place) ((v.void ≡ false) × Against kind net w d v Place)
+    ∷ row (Objected Bound) ((v.void ≡ false) × Against kind net w d v Bound)
+    ∷ []
+
+abbrev pub discharge_rows : {B : Type 0} → World B → (lent : List B) → (bytes : List ℕ) → List Row
+discharge_rows w lent bytes =
+    row WrongStage (is_proving w.state.stage ≡ false)
+    ∷ (row WrongMemory (whole w lent ≡ false)
+    ∷ voucher_rows w.state bytes)
+
+abbrev pub discharge_table : {B : Type 0} → Kind B → Net B → World B → (lent : List B) → (bytes : List ℕ) → List Row
+discharge_table kind net w lent bytes = discharge_rows w lent bytes ++ item_rows kind net w (due_in w.state.stage) (voucher_of bytes)

@@ -1,0 +1,10 @@
+// What lists of calls come to.
+ghost use Rattle.nets.specs.Nets.{Limits, Net};
+ghost use Rattle.docket_rules.specs.Promise.{Promise};
+
+use bounds::Bound;
+
+// Does nothing: its contract is what is promised of every list of calls from a blank docket, for every kind and lawful net.
+pub fn seals_keep_promises<B: Bound>()
+    ensures { (net : Net B) → Limits B.Bound.kind net → Promise B.Bound.kind net }
+{}

@@ -1,9 +1,0 @@
-use Rattle.cells.specs.Cells.{in_page}
-use Rattle.std.proofs.Common.{string_bytes}
-use Rattle.docket_words.specs.Tables.{cell_text}
-use Rattle.docket_words.proofs.Texts.{Grown}
-use Rattle.docket_words.proofs.table.write_row.Given as goal
-
-abbrev pub invariant-loop-column : goal.invariant-loop-column
-invariant-loop-column g l =
-    Grown (cell_text g.B.BoundWords.words (in_page g.B.Bound.kind l.page.cells.now) l.row) l.column (string_bytes l.initial.text) (string_bytes l.text)

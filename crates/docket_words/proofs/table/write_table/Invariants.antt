@@ -1,9 +1,0 @@
-use Rattle.cells.specs.Cells.{in_page}
-use Rattle.std.proofs.Common.{◌+◌, string_bytes}
-use Rattle.docket_words.specs.Tables.{row_text}
-use Rattle.docket_words.proofs.Texts.{Grown}
-use Rattle.docket_words.proofs.table.write_table.Given as goal
-
-abbrev pub invariant-loop-row : goal.invariant-loop-row
-invariant-loop-row g l =
-    Grown (row_text g.B.BoundWords.words (in_page g.B.Bound.kind l.page.cells.now) (l.tokens + 1)) l.row (string_bytes l.initial.text) (string_bytes l.text)

@@ -1,7 +1,0 @@
-use Rattle.std.proofs.Common.{rules, tests}
-use Rattle.entries.specs.ZoneRecords.{some_in_row, apart}
-use Rattle.entries.proofs.refusal.some_in_row.Goals as goal
-
-pub returns : goal.returns
-unfolding some_in_row
-returns g c = λ p gives. c.some_from.ensures (apart p c.args.j) (λ i b q. search (rules, tests, gives))

@@ -1,0 +1,14 @@
+use Rattle.docket.specs.Dockets.{world_of}
+use Rattle.file_check.proofs.Calling.{called}
+use Rattle.file_check.proofs.file.DocketFile.voucher.Goals as goal
+use Rattle.net_records.specs.NetBytes.{net_of}
+use Rattle.docket_rules.specs.Calls.{Discharge}
+
+pub returns-clause-made : goal.returns-clause-made
+returns-clause-made g c =
+    let kind = g.B.Bound.kind in
+    let file = c.args.self.now in
+    let part = c.in_ok-bytes.ensures in
+    let after = c.discharge-answer.new in
+    let made = c.discharge-answer.ensures in
+    called kind (net_of kind file.net.bytes.now) (world_of file.docket file.cells.now file.places.now) (world_of after.docket after.cells after.places) 6 _ file.reader.next file.reader.rest.now _ file.scratch.now after.scratch Discharge c.discharge-answer.result c.filed.result part.1 part.2 part.4 c.filed.ensures made.scratch (after.scratch, made)

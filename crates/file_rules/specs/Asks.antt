@@ -1,0 +1,87 @@
+-- What a file asks for after its net records: calls on a blank docket in their order, each with the number of its record.
+--     docket header      how many initial tokens and listed zones follow
+--     initial tokens     with the target, what open is given
+--     zones              one post each; after the last comes the close, which has no record
+--     vouchers           one discharge each, to the end of the file
+-- A record that is cut short, or has a spare bit set where no call looks, is refused before any call.
+-- Assumes nothing.
+use Rattle.std.specs.Prelude.{ℕ, zero, suc, ◌+◌, ◌*◌, ◌/◌, cond, List, [], ◌∷◌, ◌++◌, map, length, take, drop, replicate, Ok, Err, Result, nat_lt}
+use Rattle.bounds.specs.Kinds.{Kind}
+use Rattle.docket_records.specs.DocketRecords.{docket_header, docket_header_of, initial_token, token_of}
+use Rattle.docket_records.specs.declared.docket_header.DocketHeader.{DocketHeader}
+use Rattle.docket_records.specs.declared.fault.EntryRefusal.{EntryRefusal}
+use Rattle.docket_records.specs.declared.fault.EntryRefusal.TheVariants.{WrongLength}
+use Rattle.docket_records.specs.declared.token.InitialToken.{InitialToken}
+use Rattle.docket_rules.specs.Calls.{Call, Open, Post, Close, Discharge}
+use Rattle.docket_rules.specs.Tables.{Answer}
+
+pub data Ask (B : Type 0) : Type 0 where
+  -- a record that is refused before any call
+  Refuse : (at : ℕ) (refusal : EntryRefusal) → Ask B
+  -- a call, up to its answer
+  Make : (at : ℕ) (call : Answer → Call B) → Ask B
+
+-- ---- the docket header and the initial tokens
+abbrev pub refused_at : {B X : Type 0} → ℕ → Result X EntryRefusal → List (Ask B)
+refused_at at (Ok x) = []
+refused_at at (Err refusal) = Refuse at refusal ∷ []
+
+-- n tokens, the first of them record `at`
+abbrev pub initial_tokens_of : (n : ℕ) → (rest : List ℕ) → List InitialToken
+initial_tokens_of zero rest = []
+initial_tokens_of (suc n) rest = token_of (take 3 rest) ∷ initial_tokens_of n (drop 3 rest)
+
+abbrev pub tokens_refused : {B : Type 0} → (n at : ℕ) → (rest : List ℕ) → List (Ask B)
+tokens_refused zero at rest = []
+tokens_refused (suc n) at rest = refused_at at (initial_token (take 3 rest)) ++ tokens_refused n (at + 1) (drop 3 rest)
+
+abbrev pub places_given : List InitialToken → List ℕ
+places_given tokens = map (λ t. t.place) tokens
+
+abbrev pub ages_given : List InitialToken → List ℕ
+ages_given tokens = map (λ t. t.age) tokens
+
+-- ---- the calls
+-- the scratch page is lent with no limit in each cell
+abbrev pub scratch_page : {B : Type 0} → Kind B → List B
+scratch_page kind = replicate 169 kind.no_limit
+
+-- the call with a record of so many bytes
+abbrev pub with_record : {B : Type 0} → (size at : ℕ) → (rest : List ℕ) → (List ℕ → Answer → Call B) → Ask B
+with_record size at rest call = cond (nat_lt (length rest) size) (Refuse at WrongLength) (Make at (call (take size rest)))
+
+module _ {B : Type 0} (kind : Kind B) where
+  abbrev pub target_ask : (tokens : List InitialToken) (at : ℕ) (rest : List ℕ) → Ask B
+  target_ask tokens at rest = with_record 192 at rest (λ target. Open (places_given tokens) (ages_given tokens) target (scratch_page kind))
+
+  abbrev pub zone_ask : (at : ℕ) (rest : List ℕ) → Ask B
+  zone_ask at rest = with_record 192 at rest (λ zone. Post zone (scratch_page kind))
+
+  abbrev pub voucher_ask : (at : ℕ) (rest : List ℕ) → Ask B
+  voucher_ask at rest = with_record 6 at rest (λ voucher. Discharge voucher (scratch_page kind))
+
+  abbrev pub vouchers_asked : (n at : ℕ) (rest : List ℕ) → List (Ask B)
+  vouchers_asked zero at rest = []
+  vouchers_asked (suc n) at rest = voucher_ask at rest ∷ vouchers_asked n (at + 1) (drop 6 rest)
+
+  -- so many vouchers there are to the end, the last perhaps cut short
+  abbrev pub voucher_count : (rest : List ℕ) → ℕ
+  voucher_count rest = (length rest + 5) / 6
+
+  abbrev pub proving_asked : (at : ℕ) (rest : List ℕ) → List (Ask B)
+  proving_asked at rest = Make at Close ∷ vouchers_asked (voucher_count rest) at rest
+
+  -- n zones, and what follows them
+  abbrev pub zones_asked : (n at : ℕ) (rest : List ℕ) → List (Ask B)
+  zones_asked zero at rest = proving_asked at rest
+  zones_asked (suc n) at rest = zone_ask at rest ∷ zones_asked n (at + 1) (drop 192 rest)
+
+  abbrev pub target_asked : (tokens : List InitialToken) (zones at : ℕ) (rest : List ℕ) → List (Ask B)
+  target_asked tokens zones at rest = target_ask tokens at rest ∷ zones_asked zones (at + 1) (drop 192 rest)
+
+  abbrev pub marking_asked : DocketHeader → (at : ℕ) (rest : List ℕ) → List (Ask B)
+  marking_asked h at rest = tokens_refused h.initial at rest ++ target_asked (initial_tokens_of h.initial rest) h.zones (at + h.initial) (drop (3 * h.initial) rest)
+
+  -- the docket part of a file, its header record `at`
+  abbrev pub docket_asked : (at : ℕ) (rest : List ℕ) → List (Ask B)
+  docket_asked at rest = refused_at at (docket_header (take 4 rest)) ++ marking_asked (docket_header_of (take 4 rest)) (at + 1) (drop 4 rest)

@@ -1,8 +1,0 @@
-use Rattle.std.proofs.Common.{rules}
-use Rattle.filing.proofs.whole.report.Goals as goal
-use Rattle.reports.specs.Reports.{Reports}
-
-pub returns-clause-truth : goal.returns-clause-truth
-returns-clause-truth c =
-    let line : Reports c.args.bytes.now c.unwrap_or_else.result = search rules in
-    (c.lines_keep_promises.ensures c.args.bytes.now).truth c.unwrap_or_else.result line

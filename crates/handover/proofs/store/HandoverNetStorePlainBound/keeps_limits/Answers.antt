@@ -1,7 +1,0 @@
-use Rattle.handover.specs.HandoverNet.{handover_limits}
-use Rattle.handover.proofs.store.HandoverNetStorePlainBound.keeps_limits.Goals as goal
-
-pub returns : goal.returns
-returns c =
-    let line = c.args.self.now in
-    handover_limits line.lower line.upper line.ordered line.small

@@ -1,0 +1,96 @@
+-- Steps of the walk through the transitions of a net. Assumes nothing.
+use Rattle.std.proofs.Common.{◌≡◌, ℕ, suc, ◌+◌, ◌-◌, ◌<◌, ◌≤◌, Bool, true, false, cond, ltb, List, length, take, drop, Some, None, Ok, Err, Option, Result, MatchResult, IsErrAnd, sym, refl, ap, ◌∙◌, arith, length-take}
+use Rattle.std.proofs.lemmas.Bool.{lt-ltb, cond-true}
+use Rattle.std.proofs.lemmas.Result.{err_from_is_err_and}
+use Rattle.std.specs.List.{find}
+use Rattle.net_records.specs.NetRecords.{in_order, at_record, transition_record, record_has, transition_refusal, or_else, net_header_of, header_fault, transition_fault, transitions_fault, net_fault, tested}
+use Rattle.net_records.specs.Refusals.{NetFault}
+use Rattle.net_records.specs.declared.fault.NetRefusal.{NetRefusal}
+use Rattle.net_records.specs.declared.fault.NetRefusal.TheVariants.{BytesMissing}
+use Rattle.net_records.specs.declared.header.NetHeader.{NetHeader}
+use Rattle.net_records.specs.declared.transition.TransitionRecord.{TransitionRecord}
+
+-- what an answer of a test says of the fault
+pub tested_ok : {X : Type 0} (x y : X) (o : Option NetFault) → Ok y ≡ tested x o → (o ≡ None) × (y ≡ x)
+tested_ok x y None e = (refl, cc)
+tested_ok x y (Some f) e = let z : ◌≡◌ {A = ℕ} 0 1 = cc in absurd (omega arith)
+
+pub tested_err : {X : Type 0} (x : X) (f : NetFault) (o : Option NetFault) → Err f ≡ tested x o → o ≡ Some f
+tested_err x f None e = let z : ◌≡◌ {A = ℕ} 0 1 = cc in absurd (omega arith)
+tested_err x f (Some g) e = let same : g ≡ f = cc in ap Some same
+
+-- the refusal of a record, made its fault
+pub tested_at : {X : Type 0} (x : X) (o : Option NetRefusal) (at : ℕ) (t : Result X NetRefusal) (r : Result X NetFault) {Q : NetRefusal → NetFault → Type 0} → t ≡ tested x o → MatchResult t (λ y. r ≡ Ok y) (λ e. IsErrAnd r (Q e)) → ((e : NetRefusal) (f : NetFault) → Q e f → f ≡ record { refusal = e; at = at }) → r ≡ tested x (at_record at o)
+tested_at x None at t r same m is = rw same at m
+tested_at x (Some e) at t r same m is =
+    let p = err_from_is_err_and r (rw same at m) in
+    p.1 ∙ ap Err (is e p.0 p.2)
+
+-- a transition that is not there
+pub transition_missing : (h : NetHeader) (at : ℕ) (rest : List ℕ) → length rest < 41 → transition_fault h at rest ≡ Some (record { refusal = BytesMissing; at = at })
+unfolding transition_refusal
+transition_missing h at rest short =
+    ap (at_record at) (cond-true (ltb (length (take 41 rest)) 41) _ _ (lt-ltb (length (take 41 rest)) 41 (omega (arith, length-take 41 rest))))
+
+-- a transition that is read before it is tested
+pub read_err : (h : NetHeader) (bytes : List ℕ) (e : NetRefusal) → Err e ≡ cond (ltb (length bytes) 41) (Err BytesMissing) (Ok (transition_record bytes)) → Err e ≡ tested {X = Unit {0}} tt (transition_refusal h bytes)
+unfolding transition_refusal
+read_err h bytes e is = by_test (ltb (length bytes) 41) is
+  where
+    by_test : (short : Bool) → Err e ≡ cond short (Err BytesMissing) (Ok (transition_record bytes)) → Err e ≡ tested {X = Unit {0}} tt (cond short (Some BytesMissing) (find (record_has h (transition_record bytes)) in_order))
+    by_test true same = ap Err (cc)
+    by_test false same = let z : ◌≡◌ {A = ℕ} 0 1 = cc in absurd (omega arith)
+
+pub read_ok : (h : NetHeader) (bytes : List ℕ) (v : TransitionRecord) → Ok v ≡ cond (ltb (length bytes) 41) (Err BytesMissing) (Ok (transition_record bytes)) → tested {X = Unit {0}} tt (find (record_has h v) in_order) ≡ tested tt (transition_refusal h bytes)
+unfolding transition_refusal
+read_ok h bytes v is = by_test (ltb (length bytes) 41) is
+  where
+    by_test : (short : Bool) → Ok v ≡ cond short (Err BytesMissing) (Ok (transition_record bytes)) → tested {X = Unit {0}} tt (find (record_has h v) in_order) ≡ tested tt (cond short (Some BytesMissing) (find (record_has h (transition_record bytes)) in_order))
+    by_test true same = let z : ◌≡◌ {A = ℕ} 0 1 = cc in absurd (omega arith)
+    by_test false same = let e : v ≡ transition_record bytes = cc in ap (λ r. tested tt (find (record_has h r) in_order)) e
+
+-- the transitions from here on have the fault that all of them have
+abbrev pub Walked : NetHeader → ℕ → ℕ → List ℕ → List ℕ → Type 0
+Walked h done at rest bytes = transitions_fault h (h.transitions - done) at rest ≡ transitions_fault h h.transitions 1 (drop 4 bytes)
+
+module _ (h : NetHeader) (done at : ℕ) (rest bytes : List ℕ) (more : done < h.transitions) (so_far : Walked h done at rest bytes) where
+  one_more : transitions_fault h (h.transitions - done) at rest ≡ or_else (transition_fault h at rest) (transitions_fault h (h.transitions - (done + 1)) (at + 1) (drop 41 rest))
+  one_more =
+      let e : h.transitions - done ≡ suc (h.transitions - (done + 1)) = omega arith in
+      ap (λ n. transitions_fault h n at rest) e
+
+  pub walked_more : transition_fault h at rest ≡ None → Walked h (done + 1) (at + 1) (drop 41 rest) bytes
+  walked_more e = sym (one_more ∙ ap (λ o. or_else o (transitions_fault h (h.transitions - (done + 1)) (at + 1) (drop 41 rest))) e) ∙ so_far
+
+  pub walked_fault : (f : NetFault) → transition_fault h at rest ≡ Some f → header_fault bytes ≡ None → h ≡ net_header_of (take 4 bytes) → net_fault bytes ≡ Some f
+  walked_fault f e clean is =
+      ap (λ o. or_else o (transitions_fault (net_header_of (take 4 bytes)) (net_header_of (take 4 bytes)).transitions 1 (drop 4 bytes))) clean
+      ∙ ap (λ g. transitions_fault g g.transitions 1 (drop 4 bytes)) (sym is)
+      ∙ sym so_far
+      ∙ one_more
+      ∙ ap (λ o. or_else o (transitions_fault h (h.transitions - (done + 1)) (at + 1) (drop 41 rest))) e
+
+pub walked_all : (h : NetHeader) (done at : ℕ) (rest bytes : List ℕ) → h.transitions ≤ done → Walked h done at rest bytes → header_fault bytes ≡ None → h ≡ net_header_of (take 4 bytes) → net_fault bytes ≡ None
+walked_all h done at rest bytes end so_far clean is =
+    let e : h.transitions - done ≡ 0 = omega arith in
+    ap (λ o. or_else o (transitions_fault (net_header_of (take 4 bytes)) (net_header_of (take 4 bytes)).transitions 1 (drop 4 bytes))) clean
+    ∙ ap (λ g. transitions_fault g g.transitions 1 (drop 4 bytes)) (sym is)
+    ∙ sym so_far
+    ∙ ap (λ n. transitions_fault h n at rest) e
+
+-- a header that was read from a reader over the bytes
+pub header_clean : (bytes held : List ℕ) (h : NetHeader) → held ≡ bytes → Ok h ≡ tested (net_header_of (take 4 held)) (header_fault held) → (header_fault bytes ≡ None) × (h ≡ net_header_of (take 4 bytes))
+header_clean bytes held h same e = tested_ok (net_header_of (take 4 bytes)) h (header_fault bytes) (e ∙ ap (λ x. tested (net_header_of (take 4 x)) (header_fault x)) same)
+
+pub walked_none : (h : NetHeader) (bytes held rest : List ℕ) (at : ℕ) → held ≡ bytes → rest ≡ drop 4 held → at ≡ 1 → Walked h 0 at rest bytes
+walked_none h bytes held rest at same cut one =
+    let e : h.transitions - 0 ≡ h.transitions = omega arith in
+    ap (λ n. transitions_fault h n at rest) e
+    ∙ ap (λ n. transitions_fault h h.transitions n rest) one
+    ∙ ap (transitions_fault h h.transitions 1) (cut ∙ ap (drop 4) same)
+
+pub tested_none : {X : Type 0} (x y : X) (o : Option NetFault) → o ≡ None → y ≡ x → Ok y ≡ tested x o
+tested_none x y o e same = ap Ok same ∙ sym (ap (tested x) e)
+
+pub tested_some : {X : Type 0} (x : X) (f : NetFault) (o : Option NetFault) → o ≡ Some f → Err f ≡ tested x o
+tested_some x f o e = sym (ap (tested x) e)

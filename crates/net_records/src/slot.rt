@@ -1,0 +1,105 @@
+// Arc slots: a place and a range in five bytes.
+ghost use Rattle.net_records.specs.Slots.{slot_of, is_unused, is_empty, has_mark, has_stray_bit};
+ghost use Rattle.std.specs.Prelude.{◌≡◌, ◌/◌, ◌%◌, ◌^◌, ◌<◌, ◌≤◌, length, take, drop, MatchOption, ◌==◌};
+
+// One end of a range as its 16 bits say it: never below zero, as a number with a mark may be.
+#[derive(Clone, Copy, PartialEq, Eq, Debug)]
+pub struct End {
+    pub strict: bool,
+    pub number: u16,
+}
+
+#[derive(Clone, Copy, PartialEq, Eq, Debug)]
+pub struct Slot {
+    pub place: u8,
+    pub lower: End,
+    // None: no limit above
+    pub upper: Option<End>,
+    // what stands in the upper end's bits where there is no limit
+    pub unused: End,
+    pub spare: bool,
+}
+
+// A bit of a byte, counted from the lowest.
+fn bit(byte: u8, place: u8) -> bool
+    requires { place < 8 }
+    ensures { result ≡ (byte / 2 ^ place % 2 == 1) }
+{
+    (byte >> place) % 2 == 1
+}
+
+impl End {
+    const ZERO: End = End {
+        strict: false,
+        number: 0,
+    };
+}
+
+impl Slot {
+    pub(crate) const SIZE: usize = 5;
+
+    pub const BLANK: Slot = Slot {
+        place: 0,
+        lower: End::ZERO,
+        upper: Some(End::ZERO),
+        unused: End::ZERO,
+        spare: false,
+    };
+
+    // The slot at the front of the bytes, and the bytes that follow it.
+    pub fn split(bytes: &[u8]) -> Option<(Slot, &[u8])>
+        ensures { MatchOption result (length bytes.now < 5) (λ p. (5 ≤ length bytes.now) × (p.0 ≡ slot_of (take 5 bytes.now)) × (p.1.now ≡ drop 5 bytes.now)) }
+    {
+        let [a, b, c, d, e, rest @ ..] = bytes else {
+            return None;
+        };
+        let lower = End {
+            strict: bit(*a, 1),
+            number: u16::from(a % 2) * 16_384 + u16::from(*b) * 64 + u16::from(c / 4),
+        };
+        let upper = End {
+            strict: bit(*c, 0),
+            number: u16::from(*d) * 128 + u16::from(e / 2),
+        };
+        let unlimited = bit(*c, 1);
+        let slot = Slot {
+            place: a / 4,
+            lower,
+            upper: if unlimited { None } else { Some(upper) },
+            unused: if unlimited { upper } else { End::ZERO },
+            spare: bit(*e, 0),
+        };
+        Some((slot, rest))
+    }
+
+    pub(crate) fn is_unused(self) -> bool
+        ensures { result ≡ is_unused self }
+    {
+        self == Slot::BLANK
+    }
+
+    // Whether the bounds of the range sum below zero.
+    pub(crate) fn is_empty(self) -> bool
+        ensures { result ≡ is_empty self }
+    {
+        let lower = self.lower;
+        self.upper.is_some_and(|upper| {
+            upper.number < lower.number
+                || upper.number == lower.number && (lower.strict | upper.strict)
+        })
+    }
+
+    // Whether an end has a mark, also one behind no limit.
+    pub(crate) fn has_mark(self) -> bool
+        ensures { result ≡ has_mark self }
+    {
+        self.lower.strict || self.upper.is_some_and(|upper| upper.strict) || self.unused.strict
+    }
+
+    // Whether a bit that says nothing is set.
+    pub(crate) fn has_stray_bit(self) -> bool
+        ensures { result ≡ has_stray_bit self }
+    {
+        self.spare || self.unused != End::ZERO
+    }
+}

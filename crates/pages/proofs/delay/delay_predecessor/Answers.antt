@@ -1,5 +1,0 @@
-use Rattle.pages.proofs.Backwards.{delayed_back}
-use Rattle.pages.proofs.delay.delay_predecessor.Goals as goal
-
-pub returns-then-places-from : goal.returns-then-places-from
-returns-then-places-from g c = delayed_back g.B.Bound.kind c.args.places.now c.args.cells.now c.delay_back.new.cells c.delay_back.ensures

@@ -1,6 +1,0 @@
-use Rattle.std.proofs.Common.{◌≡◌}
-use Rattle.cells.specs.Cells.{times, linked}
-use Rattle.pages.proofs.draft.add_token.Given as goal
-
-abbrev pub invariant-loop-i : goal.invariant-loop-i
-invariant-loop-i g l = l.cells ≡ times l.i (λ i c. linked g.B.Bound.kind l.fn.range l.n i c) l.initial.cells

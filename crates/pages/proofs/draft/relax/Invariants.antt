@@ -1,7 +1,0 @@
-use Rattle.std.proofs.Common.{◌≡◌, cond, eqb}
-use Rattle.cells.specs.Cells.{relaxed_row, times}
-use Rattle.pages.proofs.draft.relax.Given as goal
-
-abbrev pub invariant-loop-row : goal.invariant-loop-row
-invariant-loop-row g l =
-    l.cells ≡ times l.row (λ j c. cond (eqb j l.pivot) c (relaxed_row g.B.Bound.kind l.points l.pivot j c)) l.initial.cells

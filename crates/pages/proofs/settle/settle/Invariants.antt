@@ -1,5 +1,0 @@
-use Rattle.cells.proofs.Settling.{SettledSoFar}
-use Rattle.pages.proofs.settle.settle.Given as goal
-
-abbrev pub invariant-loop-pivot : goal.invariant-loop-pivot
-invariant-loop-pivot g l = SettledSoFar g.B.Bound.kind l.points l.pivots l.initial.cells l.pivot-index l.cells

@@ -1,5 +1,0 @@
-use Rattle.records.proofs.Bounded.{sound_limits}
-use Rattle.records.proofs.packed.store.PackedNetNetStore.keeps_limits.Goals as goal
-
-pub returns : goal.returns
-returns g c = sound_limits g.B.Bound.kind c.args.self.now.bytes.now c.args.self.now.tested

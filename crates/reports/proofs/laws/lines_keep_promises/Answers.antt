@@ -1,6 +1,0 @@
-use Rattle.reports.proofs.One.{one}
-use Rattle.reports.proofs.Truths.{counts, items, truth}
-use Rattle.reports.proofs.laws.lines_keep_promises.Goals as goal
-
-pub returns : goal.returns
-returns g bytes = record { truth = truth bytes; counts = counts bytes; items = items bytes; one = one bytes }

@@ -1,5 +1,0 @@
-use Rattle.seals.proofs.Kept.{promised}
-use Rattle.seals.proofs.laws.seals_keep_promises.Goals as goal
-
-pub returns : goal.returns
-returns g c net limits = promised g.B.Bound.kind net limits

@@ -1,0 +1,80 @@
+-- Bounds of a zone in a row of cells, and what the operations on such cells leave in them.
+--     draft     169 cells for a zone of up to 12 tokens that is worked on, (j,i) at 13 j + i
+--     page      81 cells for a zone of up to 8 tokens, (j,i) at 9 j + i
+-- Every operation is a function of all cells, so it says what every cell then holds. Assumes nothing.
+use Rattle.std.specs.Prelude.{ℕ, zero, suc, ◌+◌, ◌*◌, cond, List, length, ◌==◌, slice_index, slice_index_or, slice_set}
+use Rattle.bounds.specs.Kinds.{Kind}
+use Rattle.bounds.specs.declared.range.Range.{Range}
+use Rattle.bounds.specs.Ranges.{from_zero}
+use Rattle.nets.specs.Nets.{Arc}
+use Rattle.zone_walks.specs.Walks.{Matrix, lesser}
+
+-- n steps, the first one with 0
+abbrev pub times : {X : Type 0} → ℕ → (ℕ → X → X) → X → X
+times zero step x = x
+times (suc n) step x = step n (times n step x)
+
+-- the bounds that cells hold, so many to a row; outside them there is no limit
+abbrev pub bounds_in : {B : Type 0} → Kind B → ℕ → List B → Matrix B
+bounds_in kind width cells j i = slice_index_or cells (width * j + i) kind.no_limit
+
+abbrev pub in_draft : {B : Type 0} → Kind B → List B → Matrix B
+in_draft kind cells = bounds_in kind 13 cells
+
+abbrev pub in_page : {B : Type 0} → Kind B → List B → Matrix B
+in_page kind cells = bounds_in kind 9 cells
+
+-- ---- one cell of a draft
+abbrev pub put : {B : Type 0} → ℕ → ℕ → B → List B → List B
+put j i b cells = slice_set cells (13 * j + i) b
+
+abbrev pub lowered : {B : Type 0} → Kind B → ℕ → ℕ → B → List B → List B
+lowered kind j i b cells = put j i (lesser kind (in_draft kind cells j i) b) cells
+
+-- ---- the bounds of so many points, row by row
+abbrev pub written : {B : Type 0} → Matrix B → ℕ → List B → List B
+written bounds points cells = times points (λ j c. times points (λ i d. put j i (bounds j i) d) c) cells
+
+-- ---- a round of the elimination: every bound, or the way through the pivot where that is less
+abbrev pub relaxed_row : {B : Type 0} → Kind B → ℕ → ℕ → ℕ → List B → List B
+relaxed_row kind points pivot j cells = times points (λ i c. lowered kind j i (kind.sum (in_draft kind cells j pivot) (in_draft kind c pivot i)) c) cells
+
+abbrev pub relaxed_cells : {B : Type 0} → Kind B → ℕ → ℕ → List B → List B
+relaxed_cells kind points pivot cells = times points (λ j c. cond (j == pivot) c (relaxed_row kind points pivot j c)) cells
+
+-- ---- narrowing
+abbrev pub narrowed_cells : {B : Type 0} → Kind B → ℕ → Range B → List B → List B
+narrowed_cells kind token range cells = lowered kind 0 token range.lower (lowered kind token 0 range.upper cells)
+
+-- ---- taking tokens off: the kept points' rows and columns close up
+abbrev pub moved_row : {B : Type 0} → Kind B → List ℕ → ℕ → ℕ → List B → List B
+moved_row kind kept points j cells = times points (λ i c. put j i (in_draft kind c (slice_index kept j) (slice_index kept i)) c) cells
+
+abbrev pub picked_cells : {B : Type 0} → Kind B → List ℕ → ℕ → List B → List B
+picked_cells kind kept points cells = times points (λ j c. moved_row kind kept points j c) cells
+
+-- ---- adding a token as point n: its way to every other point leads through the clock
+abbrev pub linked : {B : Type 0} → Kind B → Range B → ℕ → ℕ → List B → List B
+linked kind range n i cells = put i n (kind.sum (in_draft kind cells i 0) range.lower) (put n i (kind.sum range.upper (in_draft kind cells 0 i)) cells)
+
+abbrev pub added_cells : {B : Type 0} → Kind B → Range B → ℕ → List B → List B
+added_cells kind range n cells = put n n kind.zero (times n (λ i c. linked kind range n i c) cells)
+
+-- ---- the delay predecessor: in the clock's row the least of zero and the column
+abbrev pub column_least : {B : Type 0} → Kind B → ℕ → ℕ → List B → B
+column_least kind points i cells = times points (λ j b. cond (j == 0) b (lesser kind (in_draft kind cells j i) b)) kind.zero
+
+abbrev pub delayed_cells : {B : Type 0} → Kind B → ℕ → List B → List B
+delayed_cells kind points cells = times points (λ i c. cond (i == 0) c (put 0 i (column_least kind points i c) c)) cells
+
+-- ---- the arcs of a firing, one after the other; an arc that does not exist has the range from 0 without limit
+abbrev pub arc_at : {B : Type 0} → Kind B → List (Arc B) → ℕ → Arc B
+arc_at kind arcs a = slice_index_or arcs a (record { place = 0; range = from_zero kind })
+
+-- every matched token by the range of its output arc
+abbrev pub matched_cells : {B : Type 0} → Kind B → List (Arc B) → List ℕ → List B → List B
+matched_cells kind arcs matching cells = times (length arcs) (λ a c. cond (slice_index matching a == 0) c (narrowed_cells kind (slice_index matching a) (arc_at kind arcs a).range c)) cells
+
+-- a token for every input arc, from point n on
+abbrev pub input_cells : {B : Type 0} → Kind B → List (Arc B) → ℕ → List B → List B
+input_cells kind arcs n cells = times (length arcs) (λ a c. added_cells kind (arc_at kind arcs a).range (n + a) c) cells

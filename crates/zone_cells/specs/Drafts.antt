@@ -1,0 +1,27 @@
+-- A zone that stands in a draft. Assumes nothing.
+use Rattle.std.specs.Prelude.{◌≡◌, ℕ, ◌^◌, ◌≤◌, List, length}
+use Rattle.bounds.specs.Kinds.{Kind}
+use Rattle.zones.specs.Zones.{Zone, InNormalForm, SizedZone}
+use Rattle.zone_cells.specs.Cells.{in_draft}
+
+abbrev pub draft_zone : {B : Type 0} → Kind B → List ℕ → List B → Zone B
+draft_zone kind places cells = record { places = places; bound = in_draft kind cells }
+
+-- a listed zone has at most so many tokens
+abbrev pub most_tokens : ℕ
+most_tokens = 8
+
+-- the normal form of a record's zone has no larger bound: nine legs of less than 2^18 each
+abbrev pub largest_listed : ℕ
+largest_listed = 2 ^ 22
+
+-- nor has a predecessor
+abbrev pub largest_predecessor : ℕ
+largest_predecessor = 2 ^ 27
+
+-- a zone in normal form, as a page holds it, in whole cells
+pub record Workable {B : Type 0} (kind : Kind B) (places : List ℕ) (cells : List B) : Type 0 where
+  pub full : length cells ≡ 169
+  pub few : length places ≤ most_tokens
+  pub normal : InNormalForm kind (draft_zone kind places cells)
+  pub small : SizedZone kind largest_listed (draft_zone kind places cells)

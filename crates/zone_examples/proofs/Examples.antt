@@ -1,0 +1,171 @@
+-- The worked examples hold, over every kind. Assumes nothing.
+use Rattle.std.proofs.Common.{◌≡◌, ℕ, zero, suc, Bool, true, false, [], ◌∷◌, ℤ, pos, neg_ℤ, sym, refl, ap, ◌∙◌, subst, arith}
+use lib.Signed.{le_z}
+use Rattle.bounds.specs.Kinds.{Kind, Named, place}
+use Rattle.bounds.specs.Limits.{Limit}
+use Rattle.bounds.specs.Limits.Limit.{number, unlimited}
+use Rattle.zone_walks.specs.Walks.{Matrix, lesser, counted, Still}
+use Rattle.zone_walks.proofs.Closed.{Same}
+use Rattle.zone_walks.proofs.Lessers.{lesser_is_left}
+use Rattle.zone_walks.proofs.NormalForms.{same_back}
+use Rattle.zone_walks.proofs.Sums.{zero_after}
+use Rattle.zones.specs.Predecessors.{narrowed, released, with_token, picked, FiringPredecessor}
+use Rattle.zones.specs.Zones.{Inconsistent}
+use Rattle.zone_examples.specs.WorkedExamples.{WorkedExamples, plus, minus, strictly, between, one_token, up_to_eight, one_to_six, up_to_six, same_age, same_age_form, puts_at_three, before_firing}
+use Rattle.zone_examples.proofs.Computed.{each, plain_named}
+use Rattle.zone_examples.proofs.Starts.{none_asked, two_at_most_two, two_below_two}
+use Rattle.zone_examples.proofs.Squares.{pair, square, pair_same, square_same, narrowed_limits, released_limits, with_token_limits, narrowed_same, released_same, with_token_same, Solved, solved}
+
+-- the limits n and -n
+abbrev up : ℕ → Limit
+up n = number (pos n) false
+
+abbrev down : ℕ → Limit
+down n = number (neg_ℤ (pos n)) false
+
+abbrev eight : Matrix Limit
+eight = square (up 0) (up 0) (up 8) (up 8) (up 8) (up 4)
+
+abbrev six_above_one : Matrix Limit
+six_above_one = square (down 1) (up 0) (up 6) (up 6) (up 8) (up 4)
+
+abbrev six : Matrix Limit
+six = square (up 0) (up 0) (up 6) (up 6) (up 8) (up 4)
+
+abbrev equal : Matrix Limit
+equal = square unlimited unlimited unlimited (up 0) unlimited (up 0)
+
+abbrev equal_form : Matrix Limit
+equal_form = square (up 0) (up 0) unlimited (up 0) unlimited (up 0)
+
+-- the second token narrowed to the age 3
+abbrev both_three : Matrix Limit
+both_three = square (down 3) (down 3) (up 3) (up 0) (up 3) (up 0)
+
+abbrev before : Matrix Limit
+before = square (down 3) (up 0) (up 3) (up 3) (up 1) (down 2)
+
+module _ {B : Type 0} (kind : Kind B) where
+  eight_same : Same 3 (up_to_eight kind).bound (each kind eight)
+  eight_same = square_same kind 0 0 (up 0) (up 0) (up 8) (up 8) (up 8) (up 4)
+
+  six_above_one_same : Same 3 (one_to_six kind).bound (each kind six_above_one)
+  six_above_one_same = square_same kind 0 0 (down 1) (up 0) (up 6) (up 6) (up 8) (up 4)
+
+  six_same : Same 3 (up_to_six kind).bound (each kind six)
+  six_same = square_same kind 0 0 (up 0) (up 0) (up 6) (up 6) (up 8) (up 4)
+
+  equal_same : Same 3 (same_age kind).bound (each kind equal)
+  equal_same = square_same kind 1 2 unlimited unlimited unlimited (up 0) unlimited (up 0)
+
+  equal_form_same : Same 3 (same_age_form kind).bound (each kind equal_form)
+  equal_form_same = square_same kind 1 2 (up 0) (up 0) unlimited (up 0) unlimited (up 0)
+
+  before_same : Same 3 (before_firing kind).bound (each kind before)
+  before_same = square_same kind 1 0 (down 3) (up 0) (up 3) (up 3) (up 1) (down 2)
+
+  back : (x : Matrix B) (y : Matrix Limit) → Same 3 x (each kind y) → Same 3 (each kind y) x
+  back x y = same_back kind 3 x (each kind y)
+
+  -- ---- two tokens
+  eight_solved : Solved kind 3 (counted kind (up_to_eight kind).bound) (up_to_eight kind).bound
+  eight_solved = solved kind 3 (up_to_eight kind).bound (up_to_eight kind).bound eight eight (omega arith) eight_same (back _ eight eight_same) refl
+
+  narrowed_solved : Solved kind 3 (counted kind (narrowed kind 1 (between kind 1 6) (up_to_eight kind).bound)) (one_to_six kind).bound
+  narrowed_solved =
+      solved kind 3 (narrowed kind 1 (between kind 1 6) (up_to_eight kind).bound) (one_to_six kind).bound (narrowed_limits 1 (up 6) (down 1) eight) six_above_one (omega arith)
+      (narrowed_same kind 3 (up_to_eight kind).bound eight eight_same 1 (up 6) (down 1) refl refl refl) (back _ six_above_one six_above_one_same) refl
+
+  released_solved : Solved kind 3 (counted kind (released kind (one_to_six kind).bound)) (up_to_six kind).bound
+  released_solved =
+      solved kind 3 (released kind (one_to_six kind).bound) (up_to_six kind).bound (released_limits six_above_one) six (omega arith)
+      (released_same kind 3 (one_to_six kind).bound six_above_one six_above_one_same) (back _ six six_same) refl
+
+  -- ---- a firing
+  equal_solved : Solved kind 3 (counted kind (same_age kind).bound) (same_age_form kind).bound
+  equal_solved = solved kind 3 (same_age kind).bound (same_age_form kind).bound equal equal_form (omega arith) equal_same (back _ equal_form equal_form_same) refl
+
+  three_solved : Solved kind 3 (counted kind (narrowed kind 2 (between kind 3 3) (same_age_form kind).bound)) (each kind both_three)
+  three_solved =
+      solved kind 3 (narrowed kind 2 (between kind 3 3) (same_age_form kind).bound) (each kind both_three) (narrowed_limits 2 (up 3) (down 3) equal_form) both_three (omega arith)
+      (narrowed_same kind 3 (same_age_form kind).bound equal_form equal_form_same 2 (up 3) (down 3) refl refl refl) (λ j i p q. refl) refl
+
+  before_solved : Solved kind 3 (counted kind (with_token kind 2 (between kind 0 1) (picked (0 ∷ 1 ∷ []) (each kind both_three)))) (before_firing kind).bound
+  before_solved =
+      solved kind 3 (with_token kind 2 (between kind 0 1) (picked (0 ∷ 1 ∷ []) (each kind both_three))) (before_firing kind).bound (with_token_limits 2 (up 1) (down 0) (picked (0 ∷ 1 ∷ []) both_three)) before (omega arith)
+      (λ j i p q. with_token_same kind 2 (up 1) (down 0) (picked (0 ∷ 1 ∷ []) both_three) j i) (back _ before before_same) refl
+
+  fired : FiringPredecessor kind (puts_at_three kind) (2 ∷ []) (same_age_form kind) (before_firing kind)
+  fired = record { possible = three_solved.none; narrow = each kind both_three; narrows = three_solved.normal; places = refl; bounds = before_solved.normal }
+
+  -- ---- one token
+  three_three_solved : Solved kind 2 (counted kind (one_token kind 0 (plus kind 3) (minus kind 3)).bound) (one_token kind 0 (plus kind 3) (minus kind 3)).bound
+  three_three_solved =
+      let z = one_token kind 0 (plus kind 3) (minus kind 3) in
+      solved kind 2 z.bound z.bound (pair (down 3) (up 3)) (pair (down 3) (up 3)) (omega arith) (pair_same kind 0 (down 3) (up 3)) (same_back kind 2 z.bound (each kind (pair (down 3) (up 3))) (pair_same kind 0 (down 3) (up 3))) refl
+
+  low : Named kind.marks (neg_ℤ (pos 3)) false
+  low = plain_named kind (neg_ℤ (pos 3)) false refl
+
+  origin : Named kind.marks (pos 0) false
+  origin = plain_named kind (pos 0) false refl
+
+  at_least_three : lesser kind (minus kind 3) kind.zero ≡ minus kind 3
+  at_least_three =
+      lesser_is_left kind (minus kind 3) kind.zero (subst (λ b. kind.at_most (minus kind 3) b ≡ true) kind.number_zero (kind.numbers_order (neg_ℤ (pos 3)) (pos 0) false false low origin))
+
+  -- from the clock to the token and back; r is the sum
+  around : (c r : ℤ) (s : Bool) → Named kind.marks c s → Named kind.marks r s → kind.sum (minus kind 3) (kind.number c s) ≡ kind.number r s → le_z (place (pos 0) false) (place r s) ≡ false → Inconsistent kind (one_token kind 0 (kind.number c s) (minus kind 3))
+  around c r s upper total sum negative =
+      record {
+        at = 0;
+        point = omega arith;
+        legs = 1 ∷ 0 ∷ [];
+        closed = record { inside = (omega arith, (omega arith, tt)); few = omega arith; ends = refl };
+        below =
+            ap (λ b. kind.at_most kind.zero (kind.sum b (kind.sum (kind.number c s) kind.zero))) at_least_three
+            ∙ ap (λ b. kind.at_most kind.zero (kind.sum (minus kind 3) b)) (zero_after kind (kind.number c s) (omega (arith, kind.numbers_size c s upper, upper.small)))
+            ∙ ap (kind.at_most kind.zero) sum
+            ∙ ap (λ b. kind.at_most b (kind.number r s)) (sym kind.number_zero)
+            ∙ kind.numbers_order (pos 0) r false s origin total ∙ negative;
+      }
+
+  two_three : Inconsistent kind (one_token kind 0 (plus kind 2) (minus kind 3))
+  two_three =
+      let two = plain_named kind (pos 2) false refl in
+      around (pos 2) (neg_ℤ (pos 1)) false two (plain_named kind (neg_ℤ (pos 1)) false refl) (kind.numbers_sum (neg_ℤ (pos 3)) (pos 2) false false low two) refl
+
+  below_three : kind.marks ≡ true → Inconsistent kind (one_token kind 0 (strictly kind 3) (minus kind 3))
+  below_three m =
+      let three : Named kind.marks (pos 3) true = record { small = omega arith; takes = λ e. m } in
+      around (pos 3) (pos 0) true three (record { small = omega arith; takes = λ e. m }) (kind.numbers_sum (neg_ℤ (pos 3)) (pos 3) false true low three) refl
+
+  two_still : Still kind 3 (up_to_eight kind).bound
+  two_still zero p = refl
+  two_still (suc zero) p = refl
+  two_still (suc (suc zero)) p = refl
+  two_still (suc (suc (suc j))) p = absurd (omega (arith, p))
+
+  one_still : Still kind 2 (one_token kind 0 (plus kind 3) (minus kind 3)).bound
+  one_still zero p = refl
+  one_still (suc zero) p = refl
+  one_still (suc (suc j)) p = absurd (omega (arith, p))
+
+pub worked_examples_hold : {B : Type 0} (kind : Kind B) → WorkedExamples kind
+worked_examples_hold kind =
+    record {
+      a_normal_form = record { still = two_still kind; bounds = (eight_solved kind).normal };
+      its_own_normal_form = record { places = refl; bounds = (eight_solved kind).normal };
+      narrowed_by_one_to_six = (narrowed_solved kind).normal;
+      its_delay_predecessor = record { places = refl; bounds = (released_solved kind).normal };
+      no_age_below_zero = record { places = refl; bounds = (equal_solved kind).normal };
+      second_token_matches = refl;
+      narrowed_before_taken_off = fired kind;
+      two_below_three = two_three kind;
+      three_meets_three = (three_three_solved kind).none;
+      three_itself = record { still = one_still kind; bounds = (three_three_solved kind).normal };
+      strict_three = below_three kind;
+      none_asked = none_asked kind;
+      two_at_most_two = two_at_most_two kind;
+      two_below_two = two_below_two kind;
+    }

@@ -5,7 +5,7 @@ use crate::stages::{BOTH_IN_1, two_carriers};
 use bounds::{Bound, MarkedBound, PlainBound};
 use std::alloc::{AllocError, Global};
 use std::process::Abort;
-use test_records::zone_records::*;
+use test_records::zone_bytes::*;
 
 // The number under plain and under marked kind; 0 where the zone is taken.
 type Row = ([Listed; 2], u8, u8);

@@ -5,7 +5,7 @@ use crate::stages::*;
 use bounds::{Bound, MarkedBound, PlainBound};
 use std::alloc::{AllocError, Global};
 use std::process::Abort;
-use test_records::zone_records::*;
+use test_records::zone_bytes::*;
 
 // How many of the bytes are given where the target is due, and the number. The target's tokens stand in place 1, of any age. Listed
 // are zones of tokens in places 1 and 1, 1 and 0, 0 and 0, and once more 1 and 1 and 1 and 0, their first token at most 5 old.

@@ -2,7 +2,7 @@
 use Fault::*;
 use bounds::Bound;
 use std::alloc::{AllocError, Global};
-use test_records::zone_records::{ABOVE_1, MARKED_NO_LIMIT, MINUS_1, NO_LIMIT, record};
+use test_records::zone_bytes::{ABOVE_1, MARKED_NO_LIMIT, MINUS_1, NO_LIMIT, record};
 
 #[derive(Clone, Copy, PartialEq, Eq, Debug)]
 pub enum Fault {

@@ -4,7 +4,7 @@ use crate::stages::{BOTH_IN_1, ONE_EACH, ONE_IN_1, two_carriers};
 use bounds::{Bound, MarkedBound, PlainBound, bound_of};
 use std::alloc::{AllocError, Global};
 use std::process::Abort;
-use test_records::zone_records::*;
+use test_records::zone_bytes::*;
 
 // A bound by its row and column, with its mark.
 type Entry = (u8, u8, i32, bool);

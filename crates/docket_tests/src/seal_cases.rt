@@ -5,7 +5,7 @@ use crate::stages::*;
 use bounds::{Bound, MarkedBound, PlainBound};
 use std::alloc::{AllocError, Global};
 use std::process::Abort;
-use test_records::zone_records::record;
+use test_records::zone_bytes::record;
 
 // Whether it is proving, whether it is sealed, and its listed zones and vouchers.
 const ANSWERS: [(Stage, bool, bool, u8, u64); 5] = [

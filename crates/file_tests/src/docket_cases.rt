@@ -1,7 +1,7 @@
 // What the records before the vouchers are refused for: 20 to 26.
 use crate::file::*;
 use std::alloc::AllocError;
-use test_records::zone_records::*;
+use test_records::zone_bytes::*;
 
 #[test]
 fn records_are_cut_short(rt: HostRuntime) -> Result<(), AllocError> {

@@ -2,7 +2,7 @@
 use crate::file::*;
 use std::alloc::{AllocError, Global};
 use std::process::Abort;
-use test_records::zone_records::{MINUS_1, NO_LIMIT};
+use test_records::zone_bytes::{MINUS_1, NO_LIMIT};
 
 // The line after so many of the ten vouchers.
 const LINES: [&str; 11] = [

@@ -2,8 +2,8 @@
 use file_check::report;
 use std::alloc::{AllocError, Global};
 use std::process::Abort;
-use test_records::net_records::one_transition;
-use test_records::zone_records::{Listed, NO_LIMIT, record};
+use test_records::net_bytes::one_transition;
+use test_records::zone_bytes::{Listed, NO_LIMIT, record};
 
 // The first bytes of a zone's record, and two of its bounds; the others have no limit.
 #[derive(Clone, Copy)]

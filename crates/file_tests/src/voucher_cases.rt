@@ -1,7 +1,7 @@
 // What vouchers are refused for: 20, 21, 27 to 32, and 40.
 use crate::file::*;
 use std::alloc::AllocError;
-use test_records::zone_records::NO_LIMIT;
+use test_records::zone_bytes::NO_LIMIT;
 
 const VOID: [u8; 6] = [0x80, 0, 0, 0, 0, 0];
 

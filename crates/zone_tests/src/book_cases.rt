@@ -2,7 +2,7 @@
 use crate::drafts::{draft, number};
 use bounds::{Bound, PlainBound};
 use std::test::Fail;
-use test_records::zone_records::*;
+use test_records::zone_bytes::*;
 use zone_pages::{Asked, Book, Claim, Objection, Page};
 
 // A page whose first token has an age from 0 up to this bound; all else has no limit.

@@ -3,7 +3,7 @@ use bounds::{Bound, PlainBound, bound_of};
 use std::alloc::Global;
 use std::process::Abort;
 use std::test::Fail;
-use test_records::zone_records::{Listed, record};
+use test_records::zone_bytes::{Listed, record};
 use zone_drafts::draft::{DRAFT_CELLS, bound_at};
 use zone_reading::read_zone;
 

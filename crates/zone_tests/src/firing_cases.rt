@@ -4,7 +4,7 @@ use bounds::PlainBound;
 use net_records::packed::PackedNet;
 use std::alloc::{AllocError, Global};
 use std::test::Fail;
-use test_records::net_records::one_transition;
+use test_records::net_bytes::one_transition;
 use zone_drafts::firing::firing_predecessor;
 use zone_matchings::{is_matching, next_matching};
 

@@ -3,7 +3,7 @@ use crate::drafts::draft;
 use bounds::{Bound, MarkedBound};
 use docket_records::token::InitialToken;
 use std::test::Fail;
-use test_records::zone_records::{BELOW_2, Listed, record};
+use test_records::zone_bytes::{BELOW_2, Listed, record};
 use zone_drafts::draft::DRAFT_CELLS;
 use zone_markings::{InitialTokens, satisfies};
 use zone_reading::read_zone;

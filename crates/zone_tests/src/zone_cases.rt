@@ -5,7 +5,7 @@ use net_records::fault::Refusal;
 use std::alloc::Global;
 use std::process::Abort;
 use std::test::Fail;
-use test_records::zone_records::*;
+use test_records::zone_bytes::*;
 use zone_drafts::delay::delay_predecessor;
 use zone_drafts::draft::DRAFT_CELLS;
 use zone_reading::read_zone;

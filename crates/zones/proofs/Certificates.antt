@@ -1,11 +1,11 @@
--- A certificate shows its target safe. Assumes nothing.
-use Rattle.std.proofs.Common.{ℕ, ◌≤◌, List, [], ◌∷◌, length, inl, inr, ⊎_elim}
+-- A certificate shows its target safe.
+use Rattle.std.proofs.Common.{ℕ, ◌≤◌, List, [], ◌∷◌, length, subst, inl, inr, ⊎_elim}
 use Rattle.bounds.specs.Kinds.{Kind}
-use Rattle.nets.specs.Markings.{Marking, refined}
+use Rattle.nets.specs.Markings.{Marking}
 use Rattle.nets.specs.Nets.{Net, Every, transition_of}
 use Rattle.nets.specs.Runs.{Delayed, Fired, Run}
 use Rattle.nets.specs.Runs.Run.{stay, delay, fire}
-use Rattle.zones.specs.Safety.{Safe, Some, Vouched, StepsVouched, Certificate}
+use Rattle.zones.specs.Safety.{Apart, Certificate, Safe, Some, StepsVouched, Vouched, starts_at}
 use Rattle.zones.specs.Zones.{Zone, Satisfies}
 use Rattle.zones.proofs.Delays.{delay_satisfies}
 use Rattle.zones.proofs.Firings.{firing_came}
@@ -55,9 +55,14 @@ module _ {B : Type 0} (kind : Kind B) (k : ℕ) (grid : 1 ≤ k) (net : Net B) (
     run_listed (delay {m} {n} d p r) some = delay_listed d m n p (run_listed r some)
     run_listed (fire {m} {n} t first last f r) some = fire_listed t m n first last f (run_listed r some)
 
-pub certificates_are_sound : {B : Type 0} (kind : Kind B) (net : Net B) (initial : Marking) (target : Zone B) (listed : List (Zone B)) → Certificate kind net initial target listed → Safe kind net initial target
-certificates_are_sound kind net initial target listed c k m grid run s =
-    let end = vouched_listed kind k grid net listed target m c.covered s in
-    let start = run_listed kind k grid net listed c.steps run end in
-    let b = some_every (λ z. Satisfies kind k z (refined k initial)) (λ z. Satisfies kind 1 z initial → ⊥) listed start c.apart in
-    b.keeps (grids_satisfy kind k grid b.element initial b.has)
+pub certificates_are_sound : {B : Type 0} (kind : Kind B) (net : Net B) (starts : ℕ → Marking → Type 0) (target : Zone B) (listed : List (Zone B)) → Certificate kind net starts target listed → Safe kind net starts target
+certificates_are_sound kind net starts target listed c covering =
+    let k = covering.grid in
+    let end = vouched_listed kind k covering.some net listed target covering.last c.covered covering.satisfied in
+    let start = run_listed kind k covering.some net listed c.steps covering.run end in
+    let b = some_every (λ z. Satisfies kind k z covering.start) (Apart kind starts) listed start c.apart in
+    b.keeps k covering.start covering.some covering.begins b.has
+
+-- a zone without a marking of whole ages is without the same marking counted on each grid
+pub apart_at : {B : Type 0} (kind : Kind B) (initial : Marking) (z : Zone B) → (Satisfies kind 1 z initial → ⊥) → Apart kind (starts_at initial) z
+apart_at kind initial z apart k m grid begins s = apart (grids_satisfy kind k grid z initial (subst (Satisfies kind k z) begins s))

@@ -1,5 +1,7 @@
 -- Why a full set of vouchers shows that no run covers the target, and what each step means for markings.
--- Assumes nothing.
+--     starts     the markings that a run may begin from, on each grid
+--     covering   a run from one of them to a marking of the target
+--     apart      none of them is a marking of the zone
 use Rattle.std.specs.Prelude.{◌≡◌, ℕ, ◌≤◌, true, ◌⊎◌, List, [], ◌∷◌, length}
 use Rattle.bounds.specs.Kinds.{Kind, largest_size}
 use Rattle.nets.specs.Markings.{Marking, refined}
@@ -10,9 +12,23 @@ use Rattle.zones.specs.Vouching.{Vouches}
 use Rattle.zones.specs.Zones.{Zone, Satisfies, Inconsistent, NormalOf, SizedZone}
 
 -- ---- what is claimed
--- no run on any grid, from the initial marking, ends in a marking of the target
-abbrev pub Safe : {B : Type 0} → Kind B → Net B → Marking → Zone B → Type 0
-Safe kind net initial target = (k : ℕ) (m : Marking) → 1 ≤ k → Run kind k net (refined k initial) m → Satisfies kind k target m → ⊥
+-- one marking of whole ages, counted on each grid
+abbrev pub starts_at : Marking → ℕ → Marking → Type 0
+starts_at initial k m = m ≡ refined k initial
+
+-- a run on some grid, from a marking that it may start from to a marking of the target
+pub record Covering {B : Type 0} (kind : Kind B) (net : Net B) (starts : ℕ → Marking → Type 0) (target : Zone B) : Type 0 where
+  pub grid : ℕ
+  pub some : 1 ≤ grid
+  pub start : Marking
+  pub begins : starts grid start
+  pub last : Marking
+  pub run : Run kind grid net start last
+  pub satisfied : Satisfies kind grid target last
+
+-- there is none
+abbrev pub Safe : {B : Type 0} → Kind B → Net B → (ℕ → Marking → Type 0) → Zone B → Type 0
+Safe kind net starts target = Covering kind net starts target → ⊥
 
 -- ---- what is shown for it
 -- P of some element
@@ -40,10 +56,14 @@ pub record StepsVouched {B : Type 0} (kind : Kind B) (net : Net B) (listed : Lis
   pub delay : DelayVouched kind listed z
   pub firings : (t : ℕ) (matching : List ℕ) → 1 ≤ t → t ≤ length net.transitions → matches z.places (transition_of net t).outputs matching ≡ true → Void kind (transition_of net t) matching z ⊎ FiringVouched kind listed z (transition_of net t) matching
 
-pub record Certificate {B : Type 0} (kind : Kind B) (net : Net B) (initial : Marking) (target : Zone B) (listed : List (Zone B)) : Type 0 where
+-- no marking that a run may start from is one of z
+abbrev pub Apart : {B : Type 0} → Kind B → (ℕ → Marking → Type 0) → Zone B → Type 0
+Apart kind starts z = (k : ℕ) (m : Marking) → 1 ≤ k → starts k m → Satisfies kind k z m → ⊥
+
+pub record Certificate {B : Type 0} (kind : Kind B) (net : Net B) (starts : ℕ → Marking → Type 0) (target : Zone B) (listed : List (Zone B)) : Type 0 where
   pub covered : Vouched kind listed target
   pub steps : Every (StepsVouched kind net listed) listed
-  pub apart : Every (λ z. Satisfies kind 1 z initial → ⊥) listed
+  pub apart : Every (Apart kind starts) listed
 
 -- ---- what each step means for markings, on every grid
 -- the marking came about by the firing with this matching

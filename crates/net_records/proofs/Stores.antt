@@ -3,8 +3,7 @@ use Rattle.std.proofs.Common.{◌≡◌, ℕ, zero, suc, ◌+◌, ◌-◌, ◌*�
 use Rattle.std.proofs.lemmas.List.{drop-drop, get_or-take, get_or-drop, get_or_past, get_or-map, length-map}
 use Rattle.std.proofs.lemmas.Bool.{cases_Bool, and_parts, and_cases, and_from, and_right, leb-true, leb-false, le-leb, cond-true, cond-false, true≢false}
 use Rattle.bounds.specs.Kinds.{Kind}
-use Rattle.bounds.specs.Ranges.{from_zero}
-use Rattle.nets.specs.Nets.{Arc, Transition, numbered, transition_of, side_of, arcs_of, arc_of}
+use Rattle.nets.specs.Nets.{Arc, Transition, numbered, no_arc, no_transition, transition_of, side_of, arcs_of, arc_of}
 use Rattle.nets.specs.declared.side.Side.{Side}
 use Rattle.nets.specs.declared.side.Side.TheVariants.{Input, Output}
 use Rattle.net_records.specs.NetBytes.{slot_arc, record_transition, transitions_of, net_of, transition_bytes, has_transition, side_count, side_start, arcs_at, slot_at}
@@ -65,9 +64,6 @@ nothing (suc a) = refl
 
 -- ---- the transitions
 module _ {B : Type 0} (kind : Kind B) where
-  abbrev no_arcs : Transition B
-  no_arcs = record { inputs = []; outputs = [] }
-
   pub length_transitions : (n : ℕ) (bytes : List ℕ) → length (transitions_of kind n bytes) ≡ n
   length_transitions zero bytes = refl
   length_transitions (suc n) bytes = ap suc (length_transitions n (drop 41 bytes))
@@ -86,18 +82,18 @@ module _ {B : Type 0} (kind : Kind B) where
       let n = (net_header_of (take 4 bytes)).transitions in
       let lt = leb-true (suc i) n (and_parts (leb 1 (suc i)) (leb (suc i) n) h).1 in
       let e : suc i - 1 ≡ i = omega arith in
-      getD_transitions n (drop 4 bytes) i no_arcs lt
+      getD_transitions n (drop 4 bytes) i no_transition lt
       ∙ ap (λ x. record_transition kind (transition_record (take 41 x))) (drop-drop (41 * i) 4 bytes)
       ∙ ap (λ m. record_transition kind (transition_record (take 41 (drop (4 + 41 * m) bytes)))) (sym e)
 
   -- and one that is not
-  absent : (bytes : List ℕ) (t : ℕ) → has_transition bytes t ≡ false → transition_of (net_of kind bytes) t ≡ no_arcs
+  absent : (bytes : List ℕ) (t : ℕ) → has_transition bytes t ≡ false → transition_of (net_of kind bytes) t ≡ no_transition
   absent bytes zero h = refl
   absent bytes (suc i) h =
       let n = (net_header_of (take 4 bytes)).transitions in
       let past : n ≤ i =
       ⊎_elim (λ e. absurd (omega (arith, leb-false 1 (suc i) e))) (λ e. below_suc n i (leb-false (suc i) n e)) (and_cases (leb 1 (suc i)) (leb (suc i) n) h) in
-      get_or_past (transitions_of kind n (drop 4 bytes)) i no_arcs (at_most (length (transitions_of kind n (drop 4 bytes))) n i (length_transitions n (drop 4 bytes)) past)
+      get_or_past (transitions_of kind n (drop 4 bytes)) i no_transition (at_most (length (transitions_of kind n (drop 4 bytes))) n i (length_transitions n (drop 4 bytes)) past)
     where
       below_suc : (n i : ℕ) → n < suc i → n ≤ i
       below_suc n i h = omega arith
@@ -110,15 +106,12 @@ module _ {B : Type 0} (kind : Kind B) where
   side_arcs Output r = refl
 
   -- ---- the answers
-  abbrev pub none_there : Arc B
-  none_there = record { place = 0; range = from_zero kind }
-
   abbrev pub arc_from : Option Slot → Arc B
-  arc_from None = none_there
+  arc_from None = no_arc kind
   arc_from (Some s) = slot_arc kind s
 
   -- what `map_or` makes of the slot is what `of` reads of the arc
-  pub mapped : {Y P : Type 0} {Q : Slot → Type 0} (of : Arc B → Y) (o : Option Slot) (r : Y) → MatchOption o P Q → (P → r ≡ of none_there) → ((s : Slot) → Q s → r ≡ of (slot_arc kind s)) → r ≡ of (arc_from o)
+  pub mapped : {Y P : Type 0} {Q : Slot → Type 0} (of : Arc B → Y) (o : Option Slot) (r : Y) → MatchOption o P Q → (P → r ≡ of (no_arc kind)) → ((s : Slot) → Q s → r ≡ of (slot_arc kind s)) → r ≡ of (arc_from o)
   mapped of None r m none some = none m
   mapped of (Some s) r m none some = some s m
 
@@ -129,7 +122,7 @@ module _ {B : Type 0} (kind : Kind B) where
   length_arcs side r e few =
       length-take (side_count side r) (side_row side r.slots) ∙ few_then (side_count side r) (length (side_row side r.slots)) (length_row side r.slots e) few
 
-  no_side : (side : Side) → side_of side no_arcs ≡ []
+  no_side : (side : Side) → side_of {B = B} side no_transition ≡ []
   no_side Input = refl
   no_side Output = refl
 
@@ -154,22 +147,22 @@ module _ {B : Type 0} (kind : Kind B) where
         not_there h = cond-false (has_transition bytes t) _ _ h ∙ sym (ap length (ap (side_of side) (absent bytes t h) ∙ no_side side))
 
     -- the arc of a number among those of a side
-    counted : (c : ℕ) (row : List Slot) (a : ℕ) (s : Slot) → length row ≡ 4 → c ≤ 4 → ((j : ℕ) → suc j ≡ a → j < 4 → get_or row j s ≡ s) → numbered (map (slot_arc kind) (take c row)) a none_there ≡ arc_from (cond (leb 1 a && leb a c) (Some s) None)
+    counted : (c : ℕ) (row : List Slot) (a : ℕ) (s : Slot) → length row ≡ 4 → c ≤ 4 → ((j : ℕ) → suc j ≡ a → j < 4 → get_or row j s ≡ s) → numbered (map (slot_arc kind) (take c row)) a (no_arc kind) ≡ arc_from (cond (leb 1 a && leb a c) (Some s) None)
     counted c row zero s long small is = refl
     counted c row (suc j) s long small is = by_count (leb (suc j) c) refl
       where
-        by_count : (u : Bool) → leb (suc j) c ≡ u → get_or (map (slot_arc kind) (take c row)) j none_there ≡ arc_from (cond (leb 1 (suc j) && leb (suc j) c) (Some s) None)
+        by_count : (u : Bool) → leb (suc j) c ≡ u → get_or (map (slot_arc kind) (take c row)) j (no_arc kind) ≡ arc_from (cond (leb 1 (suc j) && leb (suc j) c) (Some s) None)
         by_count true e =
             let lt = leb-true (suc j) c e in
             let len = length-take c row ∙ few_then c (length row) long small in
             let one = le-leb 1 (suc j) (omega arith) in
-            get_or-map (slot_arc kind) (take c row) j s none_there (under j (length (take c row)) c len lt)
+            get_or-map (slot_arc kind) (take c row) j s (no_arc kind) (under j (length (take c row)) c len lt)
             ∙ ap (slot_arc kind) (get_or-take c row j s lt ∙ is j refl (below_four j c lt small))
             ∙ sym (ap arc_from (cond-true (leb 1 (suc j) && leb (suc j) c) (Some s) None (and_from (leb 1 (suc j)) (leb (suc j) c) one e)))
         by_count false e =
             let ge = leb-false (suc j) c e in
             let len = length-map (take c row) (slot_arc kind) ∙ length-take c row ∙ few_then c (length row) long small in
-            get_or_past (map (slot_arc kind) (take c row)) j none_there (over j (length (map (slot_arc kind) (take c row))) c len ge)
+            get_or_past (map (slot_arc kind) (take c row)) j (no_arc kind) (over j (length (map (slot_arc kind) (take c row))) c len ge)
             ∙ sym (ap arc_from (cond-false (leb 1 (suc j) && leb (suc j) c) (Some s) None (and_right (leb 1 (suc j)) (leb (suc j) c) e)))
 
     pub answered_arc : (a : ℕ) → arc_of kind (net_of kind bytes) t side a ≡ arc_from (slot_at bytes t side a)
@@ -180,10 +173,10 @@ module _ {B : Type 0} (kind : Kind B) where
             let p = transition_bytes bytes t in
             let r = transition_record p in
             let s = slot_of (take 5 (drop (side_start side + 5 * (a - 1)) p)) in
-            ap (λ xs. numbered xs a none_there) (arcs_there h)
+            ap (λ xs. numbered xs a (no_arc kind)) (arcs_there h)
             ∙ counted (side_count side r) (side_row side (slots_of 8 (drop 1 p))) a s (length_row side (slots_of 8 (drop 1 p)) (length_slots 8 (drop 1 p))) (few h) (λ j e lt. getD_row side p j s lt ∙ ap (λ m. slot_of (take 5 (drop (side_start side + 5 * m) p))) (previous j a e))
             ∙ sym (ap arc_from (slot_when bytes t side a h))
 
         not_there : has_transition bytes t ≡ false → arc_of kind (net_of kind bytes) t side a ≡ arc_from (slot_at bytes t side a)
         not_there h =
-            ap (λ xs. numbered xs a none_there) (ap (side_of side) (absent bytes t h) ∙ no_side side) ∙ nothing a ∙ sym (ap arc_from (slot_absent bytes t side a h))
+            ap (λ xs. numbered xs a (no_arc kind)) (ap (side_of side) (absent bytes t h) ∙ no_side side) ∙ nothing a ∙ sym (ap arc_from (slot_absent bytes t side a h))

@@ -7,7 +7,7 @@ use Rattle.bounds.specs.Ranges.{holds}
 use Rattle.bounds.specs.declared.range.Range.{Range}
 use Rattle.nets.specs.Markings.{Token, Marking, Permuted, older, aged, finer, refined, Fits, FitsAll}
 use Rattle.nets.specs.Markings.Permuted.{join}
-use Rattle.nets.specs.Nets.{Arc, Net, Transition, transition_of}
+use Rattle.nets.specs.Nets.{Arc, Net, Transition, no_transition, transition_of}
 use Rattle.nets.specs.Runs.{Delayed, Fired, Run, RunLaws}
 use Rattle.nets.specs.Runs.Run.{stay, delay, fire}
 use Rattle.nets.proofs.Bags.{permuted_same, permuted_equal, permuted_back, permuted_map}
@@ -37,7 +37,7 @@ module _ {B : Type 0} (kind : Kind B) (k : ℕ) where
   no_tokens [] fits = refl
   no_tokens (t ∷ ts) fits = absurd fits
 
-  pub idle_fired : (m n : Marking) → Fired kind k (record { inputs = []; outputs = [] }) m n → Permuted m n
+  pub idle_fired : (m n : Marking) → Fired kind k no_transition m n → Permuted m n
   idle_fired m n f =
       let before = subst (λ ts. Permuted m (ts ++ f.rest)) (no_tokens f.removed f.takes) f.before in
       let after = subst (λ ts. Permuted n (ts ++ f.rest)) (no_tokens f.added f.puts) f.after in

@@ -67,9 +67,12 @@ abbrev pub numbered : {X : Type 0} → List X → ℕ → X → X
 numbered xs zero none = none
 numbered xs (suc n) none = slice_index_or xs n none
 
--- a transition that does not exist has no arcs
+-- what stands for a transition that does not exist
+abbrev pub no_transition : {B : Type 0} → Transition B
+no_transition = record { inputs = []; outputs = [] }
+
 abbrev pub transition_of : {B : Type 0} → Net B → ℕ → Transition B
-transition_of net t = numbered net.transitions t (record { inputs = []; outputs = [] })
+transition_of net t = numbered net.transitions t no_transition
 
 abbrev pub side_of : {B : Type 0} → Side → Transition B → List (Arc B)
 side_of Input t = t.inputs
@@ -78,6 +81,9 @@ side_of Output t = t.outputs
 abbrev pub arcs_of : {B : Type 0} → Net B → ℕ → Side → List (Arc B)
 arcs_of net t side = side_of side (transition_of net t)
 
--- an arc that does not exist has place 0 and the range from 0 without limit
+-- what stands for an arc that does not exist: place 0, and the range from 0 without limit
+abbrev pub no_arc : {B : Type 0} → Kind B → Arc B
+no_arc kind = record { place = 0; range = from_zero kind }
+
 abbrev pub arc_of : {B : Type 0} → Kind B → Net B → ℕ → Side → ℕ → Arc B
-arc_of kind net t side a = numbered (arcs_of net t side) a (record { place = 0; range = from_zero kind })
+arc_of kind net t side a = numbered (arcs_of net t side) a (no_arc kind)

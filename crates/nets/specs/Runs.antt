@@ -6,7 +6,7 @@
 use Rattle.std.specs.Prelude.{ℕ, ◌≤◌, List, [], ◌++◌, length}
 use Rattle.bounds.specs.Kinds.{Kind}
 use Rattle.nets.specs.Markings.{Token, Marking, Permuted, aged, refined, FitsAll}
-use Rattle.nets.specs.Nets.{Net, Transition, transition_of}
+use Rattle.nets.specs.Nets.{Net, Transition, no_transition, transition_of}
 
 abbrev pub Delayed : ℕ → Marking → Marking → Type 0
 Delayed d from to = Permuted (aged d from) to
@@ -33,6 +33,6 @@ pub record RunLaws {B : Type 0} (kind : Kind B) (net : Net B) : Type 0 where
   -- a run after a run is a run
   pub compose : (k : ℕ) (m n o : Marking) → Run kind k net m n → Run kind k net n o → Run kind k net m o
   -- a firing of a transition without arcs changes nothing
-  pub idle : (k : ℕ) (m n : Marking) → Fired kind k (record { inputs = []; outputs = [] }) m n → Permuted m n
+  pub idle : (k : ℕ) (m n : Marking) → Fired kind k no_transition m n → Permuted m n
   -- a run on grid 1, with its ages and delays times k, is a run on grid k
   pub grids : (k : ℕ) (m n : Marking) → 1 ≤ k → Run kind 1 net m n → Run kind k net (refined k m) (refined k n)

@@ -5,8 +5,7 @@
 use Rattle.std.specs.Prelude.{ℕ, zero, suc, ◌+◌, ◌*◌, cond, List, length, ◌==◌, slice_index, slice_index_or, slice_set}
 use Rattle.bounds.specs.Kinds.{Kind}
 use Rattle.bounds.specs.declared.range.Range.{Range}
-use Rattle.bounds.specs.Ranges.{from_zero}
-use Rattle.nets.specs.Nets.{Arc}
+use Rattle.nets.specs.Nets.{Arc, no_arc}
 use Rattle.zone_walks.specs.Walks.{Matrix, lesser}
 
 -- n steps, the first one with 0
@@ -69,7 +68,7 @@ delayed_cells kind points cells = times points (λ i c. cond (i == 0) c (put 0 i
 
 -- ---- the arcs of a firing, one after the other; an arc that does not exist has the range from 0 without limit
 abbrev pub arc_at : {B : Type 0} → Kind B → List (Arc B) → ℕ → Arc B
-arc_at kind arcs a = slice_index_or arcs a (record { place = 0; range = from_zero kind })
+arc_at kind arcs a = slice_index_or arcs a (no_arc kind)
 
 -- every matched token by the range of its output arc
 abbrev pub matched_cells : {B : Type 0} → Kind B → List (Arc B) → List ℕ → List B → List B

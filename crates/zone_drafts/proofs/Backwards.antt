@@ -1,7 +1,6 @@
 -- The steps of both predecessors put together. Assumes nothing.
 use Rattle.std.proofs.Common.{◌≡◌, ℕ, suc, ◌+◌, ◌-◌, ◌<◌, ◌≤◌, Bool, true, false, cond, eqb, List, ◌∷◌, ◌++◌, map, length, get_or, take, drop, sym, ap, ◌∙◌, subst, subst₂, ap₂, arith}
 use Rattle.bounds.specs.Kinds.{Kind}
-use Rattle.bounds.specs.Ranges.{from_zero}
 use Rattle.zone_cells.specs.Cells.{arc_at, in_draft, matched_cells, narrowed_cells, times, picked_cells, input_cells, delayed_cells}
 use Rattle.zone_cells.specs.Drafts.{draft_zone, Workable}
 use Rattle.zone_cells.specs.Settling.{SettlingAnswered, Settles}
@@ -11,7 +10,7 @@ use Rattle.zone_cells.proofs.Grid.{length_matched, length-picked, length_inputs,
 use Rattle.zone_cells.proofs.Sifted.{sifted-others, sifted_few}
 use Rattle.zone_matchings.proofs.Steps.{numbered_from}
 use Rattle.zone_drafts.proofs.Steps.{one_numbered, last_numbered}
-use Rattle.nets.specs.Nets.{Arc, Transition, TransitionLimits, numbered}
+use Rattle.nets.specs.Nets.{Arc, Transition, TransitionLimits, no_arc, numbered}
 use Rattle.zones.specs.Predecessors.{matches}
 use Rattle.std.proofs.lemmas.List.{length-map, take_rest}
 use Rattle.zone_drafts.specs.Backwards.{DelayedBack, NarrowedAnswer, Narrowed, Replaced, Predecessor}
@@ -28,7 +27,7 @@ module _ {B : Type 0} (kind : Kind B) where
     abbrev pub after_arcs : ℕ → List B
     after_arcs n = times n (λ a c. cond (eqb (get_or ms a 0) 0) c (narrowed_cells kind (get_or ms a 0) (arc_at kind arcs a).range c)) before
 
-    pub one_narrows : (arc : ℕ) (cells next : List B) → 0 < arc → cells ≡ after_arcs (arc - 1) → next ≡ cond (eqb (get_or ms (arc - 1) 0) 0) cells (narrowed_cells kind (get_or ms (arc - 1) 0) (numbered arcs arc (record { place = 0; range = from_zero kind })).range cells) → next ≡ after_arcs (arc + 1 - 1)
+    pub one_narrows : (arc : ℕ) (cells next : List B) → 0 < arc → cells ≡ after_arcs (arc - 1) → next ≡ cond (eqb (get_or ms (arc - 1) 0) 0) cells (narrowed_cells kind (get_or ms (arc - 1) 0) (numbered arcs arc (no_arc kind)).range cells) → next ≡ after_arcs (arc + 1 - 1)
     one_narrows arc cells next some so_far is =
         let token = get_or ms (arc - 1) 0 in
         one_numbered arc _ before cells next some so_far (is ∙ ap (λ (a : Arc B). cond (eqb token 0) cells (narrowed_cells kind token a.range cells)) (numbered_from arcs arc _ some))

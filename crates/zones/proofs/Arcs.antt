@@ -1,10 +1,10 @@
 -- The arcs of a transition: at most four on a side. Assumes nothing.
 use Rattle.std.proofs.Common.{ℕ, zero, suc, ◌≤◌, List, [], ◌∷◌, length, get_or, arith}
 use Rattle.bounds.specs.Kinds.{Kind}
-use Rattle.nets.specs.Nets.{Transition, TransitionLimits, Net, Limits, Every, arcs_of, transition_of}
+use Rattle.nets.specs.Nets.{Transition, TransitionLimits, Net, Limits, Every, arcs_of, no_transition, transition_of}
 use Rattle.nets.specs.declared.side.Side.TheVariants.{Output}
 
-limits_at : {B : Type 0} (kind : Kind B) (places : ℕ) (ts : List (Transition B)) (i : ℕ) → Every (TransitionLimits kind places) ts → TransitionLimits kind places (get_or ts i (record { inputs = []; outputs = [] }))
+limits_at : {B : Type 0} (kind : Kind B) (places : ℕ) (ts : List (Transition B)) (i : ℕ) → Every (TransitionLimits kind places) ts → TransitionLimits kind places (get_or ts i no_transition)
 limits_at kind places [] i h = record { few_inputs = omega arith; few_outputs = omega arith; inputs = tt; outputs = tt }
 limits_at kind places (t ∷ ts) zero h = h.0
 limits_at kind places (t ∷ ts) (suc i) h = limits_at kind places ts i h.1

@@ -1,6 +1,6 @@
 // Records of one size: fields of bits, and spare bits that are zero.
 ghost use Rattle.docket_records.specs.Records.{placed, read_as};
-ghost use Rattle.net_records.specs.Parts.{Moved};
+ghost use Rattle.net_records.specs.Parts.{Moved, asked};
 ghost use Rattle.std.specs.Prelude.{◌≡◌, ◌<◌, ℕ, Bool, List, take};
 
 use crate::fault::{EntryFault, EntryRefusal};
@@ -39,8 +39,9 @@ pub trait Record: Sized {
     }
     // The record that comes next. Where it is refused, its fault has its number.
     final fn next(reader: &mut Reader<'_>) -> Result<Self, EntryFault>
-        ensures answer { result ≡ placed reader.old.next (read_as SIZE spare said (take SIZE reader.old.rest.now)) }
-        ensures moved { Moved SIZE reader.old.rest.now reader.old.next result reader.new.rest.now reader.new.next }
+        ensures answer { result ≡ placed reader.old.next (read_as SIZE spare said (take SIZE reader.old.rest)) }
+        ensures moved { Moved SIZE reader.old result reader.new }
+        ensures left { reader.new ≡ asked SIZE reader.old }
     {
         let Part { bytes, at } = reader.part(Self::SIZE)?;
         Self::read(bytes).map_err(|refusal| Fault { refusal, at })

@@ -4,6 +4,7 @@ use Rattle.std.proofs.lemmas.Bool.{lt-ltb, cond-true}
 use Rattle.std.proofs.lemmas.Result.{err_from_is_err_and}
 use Rattle.std.specs.List.{find}
 use Rattle.net_records.specs.NetRecords.{in_order, at_record, transition_record, record_has, transition_refusal, or_else, net_header_of, header_fault, transition_fault, transitions_fault, net_fault, tested}
+use Rattle.net_records.specs.Parts.{Unread, past}
 use Rattle.net_records.specs.Refusals.{NetFault}
 use Rattle.net_records.specs.declared.fault.NetRefusal.{NetRefusal}
 use Rattle.net_records.specs.declared.fault.NetRefusal.TheVariants.{BytesMissing}
@@ -49,45 +50,51 @@ read_ok h bytes v is = by_test (ltb (length bytes) 41) is
     by_test true same = let z : ◌≡◌ {A = ℕ} 0 1 = cc in absurd (omega arith)
     by_test false same = let e : v ≡ transition_record bytes = cc in ap (λ r. tested tt (find (record_has h r) in_order)) e
 
--- the transitions from here on have the fault that all of them have
-abbrev pub Walked : NetHeader → ℕ → ℕ → List ℕ → List ℕ → Type 0
-Walked h done at rest bytes = transitions_fault h (h.transitions - done) at rest ≡ transitions_fault h h.transitions 1 (drop 4 bytes)
+-- the transitions that are left have the fault that all of them have
+abbrev pub Walked : NetHeader → ℕ → Unread → List ℕ → Type 0
+Walked h done left bytes =
+    transitions_fault h (h.transitions - done) left.next left.rest ≡ transitions_fault h h.transitions 1 (drop 4 bytes)
 
-module _ (h : NetHeader) (done at : ℕ) (rest bytes : List ℕ) (more : done < h.transitions) (so_far : Walked h done at rest bytes) where
-  one_more : transitions_fault h (h.transitions - done) at rest ≡ or_else (transition_fault h at rest) (transitions_fault h (h.transitions - (done + 1)) (at + 1) (drop 41 rest))
+module _ (h : NetHeader) (done : ℕ) (left : Unread) (bytes : List ℕ) (more : done < h.transitions) (so_far : Walked h done left bytes) where
+  abbrev this : Option NetFault
+  this = transition_fault h left.next left.rest
+
+  abbrev later : Option NetFault
+  later = transitions_fault h (h.transitions - (done + 1)) (left.next + 1) (drop 41 left.rest)
+
+  one_more : transitions_fault h (h.transitions - done) left.next left.rest ≡ or_else this later
   one_more =
       let e : h.transitions - done ≡ suc (h.transitions - (done + 1)) = omega arith in
-      ap (λ n. transitions_fault h n at rest) e
+      ap (λ n. transitions_fault h n left.next left.rest) e
 
-  pub walked_more : transition_fault h at rest ≡ None → Walked h (done + 1) (at + 1) (drop 41 rest) bytes
-  walked_more e = sym (one_more ∙ ap (λ o. or_else o (transitions_fault h (h.transitions - (done + 1)) (at + 1) (drop 41 rest))) e) ∙ so_far
+  pub walked_more : (after : Unread) → this ≡ None → after ≡ past 41 left → Walked h (done + 1) after bytes
+  walked_more after e moved = rw moved (sym (one_more ∙ ap (λ o. or_else o later) e) ∙ so_far)
 
-  pub walked_fault : (f : NetFault) → transition_fault h at rest ≡ Some f → header_fault bytes ≡ None → h ≡ net_header_of (take 4 bytes) → net_fault bytes ≡ Some f
+  pub walked_fault : (f : NetFault) → this ≡ Some f → header_fault bytes ≡ None → h ≡ net_header_of (take 4 bytes) → net_fault bytes ≡ Some f
   walked_fault f e clean is =
       ap (λ o. or_else o (transitions_fault (net_header_of (take 4 bytes)) (net_header_of (take 4 bytes)).transitions 1 (drop 4 bytes))) clean
       ∙ ap (λ g. transitions_fault g g.transitions 1 (drop 4 bytes)) (sym is)
       ∙ sym so_far
       ∙ one_more
-      ∙ ap (λ o. or_else o (transitions_fault h (h.transitions - (done + 1)) (at + 1) (drop 41 rest))) e
+      ∙ ap (λ o. or_else o later) e
 
-pub walked_all : (h : NetHeader) (done at : ℕ) (rest bytes : List ℕ) → h.transitions ≤ done → Walked h done at rest bytes → header_fault bytes ≡ None → h ≡ net_header_of (take 4 bytes) → net_fault bytes ≡ None
-walked_all h done at rest bytes end so_far clean is =
+pub walked_all : (h : NetHeader) (done : ℕ) (left : Unread) (bytes : List ℕ) → h.transitions ≤ done → Walked h done left bytes → header_fault bytes ≡ None → h ≡ net_header_of (take 4 bytes) → net_fault bytes ≡ None
+walked_all h done left bytes end so_far clean is =
     let e : h.transitions - done ≡ 0 = omega arith in
     ap (λ o. or_else o (transitions_fault (net_header_of (take 4 bytes)) (net_header_of (take 4 bytes)).transitions 1 (drop 4 bytes))) clean
     ∙ ap (λ g. transitions_fault g g.transitions 1 (drop 4 bytes)) (sym is)
     ∙ sym so_far
-    ∙ ap (λ n. transitions_fault h n at rest) e
+    ∙ ap (λ n. transitions_fault h n left.next left.rest) e
 
 -- a header that was read from a reader over the bytes
-pub header_clean : (bytes held : List ℕ) (h : NetHeader) → held ≡ bytes → Ok h ≡ tested (net_header_of (take 4 held)) (header_fault held) → (header_fault bytes ≡ None) × (h ≡ net_header_of (take 4 bytes))
-header_clean bytes held h same e = tested_ok (net_header_of (take 4 bytes)) h (header_fault bytes) (e ∙ ap (λ x. tested (net_header_of (take 4 x)) (header_fault x)) same)
+pub header_clean : (bytes : List ℕ) (start : Unread) (h : NetHeader) → start ≡ record { rest = bytes; next = 0 } → Ok h ≡ tested (net_header_of (take 4 start.rest)) (header_fault start.rest) → (header_fault bytes ≡ None) × (h ≡ net_header_of (take 4 bytes))
+header_clean bytes start h is e =
+    tested_ok (net_header_of (take 4 bytes)) h (header_fault bytes) (e ∙ ap (λ (u : Unread). tested (net_header_of (take 4 u.rest)) (header_fault u.rest)) is)
 
-pub walked_none : (h : NetHeader) (bytes held rest : List ℕ) (at : ℕ) → held ≡ bytes → rest ≡ drop 4 held → at ≡ 1 → Walked h 0 at rest bytes
-walked_none h bytes held rest at same cut one =
+pub walked_none : (h : NetHeader) (bytes : List ℕ) (start left : Unread) → start ≡ record { rest = bytes; next = 0 } → left ≡ past 4 start → Walked h 0 left bytes
+walked_none h bytes start left is moved =
     let e : h.transitions - 0 ≡ h.transitions = omega arith in
-    ap (λ n. transitions_fault h n at rest) e
-    ∙ ap (λ n. transitions_fault h h.transitions n rest) one
-    ∙ ap (transitions_fault h h.transitions 1) (cut ∙ ap (drop 4) same)
+    rw (moved, is) (ap (λ n. transitions_fault h n 1 (drop 4 bytes)) e)
 
 pub tested_none : {X : Type 0} (x y : X) (o : Option NetFault) → o ≡ None → y ≡ x → Ok y ≡ tested x o
 tested_none x y o e same = ap Ok same ∙ sym (ap (tested x) e)

@@ -7,6 +7,7 @@ use Rattle.nets.specs.declared.side.Side.{Side}
 use Rattle.nets.specs.declared.side.Side.TheVariants.{Input, Output}
 use Rattle.net_records.specs.Slots.{slot_of}
 use Rattle.net_records.specs.NetRecords.{net_header_of, transition_record}
+use Rattle.net_records.specs.Parts.{Unread}
 use Rattle.net_records.specs.declared.header.NetHeader.{NetHeader}
 use Rattle.net_records.specs.declared.slot.End.{End}
 use Rattle.net_records.specs.declared.slot.Slot.{Slot}
@@ -51,6 +52,10 @@ later_records bytes = drop (net_size (net_header_of (take 4 bytes))) bytes
 -- and the number of the first
 abbrev pub first_later : List ℕ → ℕ
 first_later bytes = 1 + (net_header_of (take 4 bytes)).transitions
+
+-- what a reader behind the net's records holds
+abbrev pub after_net : List ℕ → Unread
+after_net bytes = record { rest = later_records bytes; next = first_later bytes }
 
 -- ---- what is asked of the bytes
 -- the bytes of a transition, numbered from 1

@@ -12,8 +12,8 @@ use crate::transition::TransitionRecord;
 // The net header, which is the reader's first record.
 fn read_header(reader: &mut Reader<'_>) -> Result<NetHeader, NetFault>
     requires { reader.old.next ≡ 0 }
-    ensures answer { result ≡ tested (net_header_of (take 4 reader.old.rest.now)) (header_fault reader.old.rest.now) }
-    ensures moved { Moved 4 reader.old.rest.now reader.old.next result reader.new.rest.now reader.new.next }
+    ensures answer { result ≡ tested (net_header_of (take 4 reader.old.rest)) (header_fault reader.old.rest) }
+    ensures moved { Moved 4 reader.old result reader.new }
 {
     let Part { bytes, at } = reader.part(NetHeader::SIZE)?;
     NetHeader::read(bytes).map_err(|refusal| Fault { refusal, at })
@@ -21,8 +21,8 @@ fn read_header(reader: &mut Reader<'_>) -> Result<NetHeader, NetFault>
 
 // One transition, which is the reader's next record.
 fn check_transition(reader: &mut Reader<'_>, header: NetHeader) -> Result<(), NetFault>
-    ensures answer { result ≡ tested tt (transition_fault header reader.old.next reader.old.rest.now) }
-    ensures moved { Moved 41 reader.old.rest.now reader.old.next result reader.new.rest.now reader.new.next }
+    ensures answer { result ≡ tested tt (transition_fault header reader.old.next reader.old.rest) }
+    ensures moved { Moved 41 reader.old result reader.new }
 {
     let Part { bytes, at } = reader.part(TransitionRecord::SIZE)?;
     TransitionRecord::test(bytes, header).map_err(|refusal| Fault { refusal, at })

@@ -1,6 +1,6 @@
 // What the packed net store answers. Each arc is decoded where it lies.
 ghost use Rattle.std.specs.Prelude.{◌≡◌, ◌+◌, ◌≤◌, true, false, ◌&&◌, take, if◌then◌else◌, MatchOption, MatchResult, Some, nat_le};
-ghost use Rattle.net_records.specs.NetBytes.{transition_bytes, has_transition, side_count, side_start, arcs_at, slot_at, later_records, first_later};
+ghost use Rattle.net_records.specs.NetBytes.{transition_bytes, has_transition, side_count, side_start, arcs_at, slot_at, after_net};
 ghost use Rattle.net_records.specs.NetRecords.{sound, no_net, net_fault, net_header_of, transition_record};
 
 use crate::fault::NetFault;
@@ -65,8 +65,7 @@ impl<'a> PackedNet<'a> {
 
     // A reader of the records that follow the net's.
     pub fn later_records(&self) -> Reader<'a>
-        ensures rest { result.rest.now ≡ later_records self.now.bytes.now }
-        ensures next { result.next ≡ first_later self.now.bytes.now }
+        ensures { result ≡ after_net self.now.bytes.now }
     {
         let transitions = usize::from(self.header.transitions);
         Reader {

@@ -18,7 +18,7 @@ use Rattle.nets.specs.Nets.{Net}
 use Rattle.docket_refusals.specs.declared.refusal.CallRefusal.{CallRefusal}
 use Rattle.docket_refusals.specs.declared.refusal.CallRefusal.TheVariants.{Entry}
 use Rattle.file_rules.specs.Asks.{Ask, Refuse, Make, scratch_page, voucher_ask}
-use Rattle.file_rules.specs.Reports.{Finishes as Closing}
+use Rattle.file_rules.specs.Reports.{Ends as Closing}
 use Rattle.file_rules.specs.declared.fault.FileFault.{FileFault}
 use Rattle.file_rules.specs.declared.fault.FileRefusal.TheVariants.{Call as InCall}
 use Rattle.docket_rules.specs.Calls.{Call, Discharge, next_due_of, stage_of}

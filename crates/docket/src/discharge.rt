@@ -2,11 +2,11 @@
 ghost use Rattle.zone_pages.specs.Objections.{objection_of};
 ghost use Rattle.zone_cells.specs.Drafts.{draft_zone};
 ghost use Rattle.docket.specs.Discharging.{Advanced, Weighed, judged, voucher_read};
-ghost use Rattle.docket.specs.Dockets.{state_of, world_of};
+ghost use Rattle.docket.specs.Dockets.{world_over};
 ghost use Rattle.docket_rules.specs.Calls.{Discharges};
 ghost use Rattle.docket_rules.specs.Promise.{Promise};
 ghost use Rattle.docket_rules.specs.Tables.{pairing_of, partners_used};
-ghost use Rattle.docket_rules.specs.Worlds.{in_list, page_cells, page_of, page_places};
+ghost use Rattle.docket_rules.specs.Worlds.{in_list, page_cells, page_of, page_places, with_book};
 ghost use Rattle.std.specs.Prelude.{◌≡◌, ◌<◌, length, slice_index};
 
 use crate::docket::Docket;
@@ -28,29 +28,29 @@ use zones::MOST_TOKENS;
 impl Docket {
     // How many tokens a page has; one that is not written has none.
     fn token_count(&self, number: u8) -> u8
-        ensures { result ≡ slice_index (state_of self.now).counts number }
+        ensures { result ≡ slice_index self.now.counts number }
     {
         byte(&self.counts, usize::from(number))
     }
 
     // The page with this number, and the places of its tokens.
     pub fn page<'a, 'b, B: Bound>(&self, book: &Book<'a, 'b, B>, number: u8) -> Page<'a, 'b, B>
-        ensures cells { result.cells.now ≡ page_cells (world_of self.now book.now.cells.now book.now.places.now) number }
-        ensures places { result.places.now ≡ page_places (world_of self.now book.now.cells.now book.now.places.now) number }
+        ensures cells { result.cells.now ≡ page_cells (world_over self.now book.now) number }
+        ensures places { result.places.now ≡ page_places (world_over self.now book.now) number }
         ensures few { length result.places.now < 256 }
     {
         page(book.cells, book.places, number, self.token_count(number))
     }
 
     fn is_listed(&self, zone: u8) -> bool
-        ensures { result ≡ in_list (state_of self.now) zone }
+        ensures { result ≡ in_list self.now zone }
     {
         (1..=self.listed()).contains(&zone)
     }
 
     // How many partners a voucher uses: all, where its zone is not listed.
     pub fn partners_used(&self, voucher: &Voucher) -> u8
-        ensures { result ≡ partners_used (state_of self.now) voucher.now }
+        ensures { result ≡ partners_used self.now voucher.now }
     {
         if self.is_listed(voucher.zone) {
             self.token_count(voucher.zone)
@@ -60,7 +60,7 @@ impl Docket {
     }
 
     fn read_voucher(&self, bytes: &[u8]) -> Result<Voucher, EntryRefusal>
-        ensures { result ≡ voucher_read (state_of self.now) bytes.now }
+        ensures { result ≡ voucher_read self.now bytes.now }
     {
         let voucher = Voucher::read(bytes)?;
         if voucher.unused_set(self.partners_used(&voucher)) {
@@ -76,7 +76,7 @@ impl Docket {
         asked: Asked<'_, '_, B>,
         voucher: &Voucher,
     ) -> Result<(), Objection>
-        ensures { result ≡ objection_of B.Bound.kind (page_of B.Bound.kind (world_of self.now book.now.cells.now book.now.places.now) voucher.now.zone) (draft_zone B.Bound.kind asked.entry.places.now asked.entry.cells.now) (pairing_of (state_of self.now) voucher.now) }
+        ensures { result ≡ objection_of B.Bound.kind (page_of B.Bound.kind (world_over self.now book.now) voucher.now.zone) (draft_zone B.Bound.kind asked.entry.places.now asked.entry.cells.now) (pairing_of self.now voucher.now) }
     {
         let tokens = usize::from(self.token_count(voucher.zone));
         let claim = Claim {
@@ -95,7 +95,7 @@ impl Docket {
         asked: Option<Tokens>,
         voucher: &Voucher,
     ) -> Result<(), CallRefusal>
-        ensures { result ≡ judged B.Bound.kind (world_of self.now book.now.cells.now book.now.places.now) voucher.now draft.now asked }
+        ensures { result ≡ judged B.Bound.kind (world_over self.now book.now) voucher.now draft.now asked }
     {
         match (voucher.void, asked) {
             (true, None) => Ok(()),
@@ -121,7 +121,7 @@ impl Docket {
         bytes: &[u8],
         item: Item,
     ) -> Result<(), CallRefusal>
-        ensures { Weighed B.Bound.kind (N.NetStore.net store.now) (world_of self.now book.now.cells.now book.now.places.now) bytes.now item scratch.old scratch.new result }
+        ensures { Weighed B.Bound.kind (N.NetStore.net store.now) (world_over self.now book.now) bytes.now item scratch.old scratch.new result }
     {
         let voucher = self.read_voucher(bytes)?;
         let asked = item_zone(store, &self.page(book, item.zone), item, scratch);
@@ -129,7 +129,7 @@ impl Docket {
     }
 
     fn advance<B: Bound, N: NetStore<B>>(&mut self, store: &N, book: &Book<'_, '_, B>, item: Item)
-        ensures { Advanced B.Bound.kind (N.NetStore.net store.now) (world_of self.old book.now.cells.now book.now.places.now) item (state_of self.new) }
+        ensures { Advanced B.Bound.kind (N.NetStore.net store.now) (world_over self.old book.now) item self.new }
     {
         let places = self.page(book, item.zone).places;
         self.stage = match next_due(store, self.listed(), places, item) {
@@ -148,7 +148,7 @@ impl Docket {
         scratch: &mut [B],
         voucher: &[u8],
     ) -> Result<(), CallRefusal>
-        ensures { Discharges B.Bound.kind (N.NetStore.net store.now) voucher.now scratch.old scratch.new (world_of self.old cells.now places.now) (world_of self.new cells.now places.now) result }
+        ensures { Discharges B.Bound.kind (N.NetStore.net store.now) voucher.now scratch.old scratch.new (with_book self.old cells.now places.now) (with_book self.new cells.now places.now) result }
     {
         let Stage::Proving(item) = self.stage else {
             return Err(CallRefusal::WrongStage);
@@ -174,7 +174,7 @@ impl Docket {
         scratch: &mut [B],
         voucher: &[u8],
     ) -> Result<(), CallRefusal>
-        ensures step { Discharges B.Bound.kind (N.NetStore.net store.now) voucher.now scratch.old scratch.new (world_of self.old cells.now places.now) (world_of self.new cells.now places.now) result }
+        ensures step { Discharges B.Bound.kind (N.NetStore.net store.now) voucher.now scratch.old scratch.new (with_book self.old cells.now places.now) (with_book self.new cells.now places.now) result }
         ensures promise { Promise B.Bound.kind (N.NetStore.net store.now) }
     {
         store.keeps_limits();

@@ -1,5 +1,4 @@
 // What a docket keeps between its calls: how far it has come, the initial tokens, and how many tokens each page has.
-ghost use Rattle.docket.specs.Dockets.{state_of};
 ghost use Rattle.docket_rules.specs.Calls.{Closes, next_due_of};
 ghost use Rattle.docket_rules.specs.Tables.{is_sealed};
 ghost use Rattle.docket_rules.specs.Worlds.{blank, listed_count};
@@ -9,6 +8,7 @@ use arrayvec::ArrayVec;
 use docket_dues::Item;
 use docket_refusals::CallRefusal;
 use docket_rules::Stage;
+use std::marker::Model;
 use zone_markings::InitialTokens;
 
 // The first item that is due: the target itself.
@@ -28,9 +28,17 @@ pub struct Docket {
     pub(crate) taken: u64,
 }
 
+impl Model for Docket {
+    ghost use Rattle.docket_rules.specs.Worlds.{State};
+
+    ghost Value = { State };
+
+    ghost view = { λ d. record { stage = d.stage; initial = d.initial.items; counts = d.counts.items; taken = d.taken } };
+}
+
 impl Docket {
     pub fn new() -> Docket
-        ensures { state_of result ≡ blank }
+        ensures { result ≡ blank }
     {
         Docket {
             stage: Stage::Blank,
@@ -42,7 +50,7 @@ impl Docket {
 
     // No zone may be posted any more: the items are due, the target's first.
     pub fn close(&mut self) -> Result<(), CallRefusal>
-        ensures { Closes (state_of self.old) (state_of self.new) result }
+        ensures { Closes self.old self.new result }
     {
         if self.stage != Stage::Listing {
             return Err(CallRefusal::WrongStage);
@@ -54,7 +62,7 @@ impl Docket {
 
     // The first item that is due; none outside proving.
     pub fn next_due(&self) -> Option<Item>
-        ensures { result ≡ next_due_of (state_of self.now).stage }
+        ensures { result ≡ next_due_of self.now.stage }
     {
         match self.stage {
             Stage::Proving(item) => Some(item),
@@ -63,21 +71,21 @@ impl Docket {
     }
 
     pub fn is_sealed(&self) -> bool
-        ensures { result ≡ is_sealed (state_of self.now).stage }
+        ensures { result ≡ is_sealed self.now.stage }
     {
         self.stage == Stage::Sealed
     }
 
     // How many zones are listed.
     pub fn listed(&self) -> u8
-        ensures { result ≡ listed_count (state_of self.now) }
+        ensures { result ≡ listed_count self.now }
     {
         (self.counts.len() as u8).saturating_sub(1)
     }
 
     // How many vouchers were taken.
     pub fn taken(&self) -> u64
-        ensures { result ≡ (state_of self.now).taken }
+        ensures { result ≡ self.now.taken }
     {
         self.taken
     }

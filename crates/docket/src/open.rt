@@ -1,9 +1,10 @@
 // Opening: the initial marking, and the target on page 0.
-ghost use Rattle.docket.specs.Dockets.{Tried, world_of};
+ghost use Rattle.docket.specs.Dockets.{Tried};
 ghost use Rattle.docket.specs.Gathered.{gathered};
 ghost use Rattle.docket_records.specs.ZoneRecords.{zone_of};
 ghost use Rattle.docket_rules.specs.Calls.{Opened, Opens, initial_tokens};
 ghost use Rattle.docket_rules.specs.Tables.{initial_rows, record_rows, too_old};
+ghost use Rattle.docket_rules.specs.Worlds.{with_book};
 ghost use Rattle.std.specs.List.{list_any};
 ghost use Rattle.std.specs.Prelude.{◌≡◌, ◌≤◌, ◌++◌, length, nat_le};
 
@@ -81,7 +82,7 @@ impl Docket {
         requires drafted { length draft.old ≡ 169 }
         requires even { length initial_ages.now ≡ length initial_places.now }
         ensures kept { length draft.new ≡ length draft.old }
-        ensures tried { Tried (initial_rows net_places initial_places.now initial_ages.now ++ record_rows B.Bound.kind net_places target.now) (Opened B.Bound.kind initial_places.now initial_ages.now (zone_of B.Bound.kind target.now) (world_of self.old cells.old places.old) (world_of self.new cells.new places.new)) (world_of self.old cells.old places.old) (world_of self.new cells.new places.new) result }
+        ensures tried { Tried (initial_rows net_places initial_places.now initial_ages.now ++ record_rows B.Bound.kind net_places target.now) (Opened B.Bound.kind initial_places.now initial_ages.now (zone_of B.Bound.kind target.now) (with_book self.old cells.old places.old) (with_book self.new cells.new places.new)) (with_book self.old cells.old places.old) (with_book self.new cells.new places.new) result }
     {
         let initial = gather(net_places, initial_places, initial_ages)?;
         let tokens = read_zone(target, net_places, draft)?;
@@ -105,7 +106,7 @@ impl Docket {
         initial_ages: &[u16],
         target: &[u8],
     ) -> Result<(), CallRefusal>
-        ensures { Opens B.Bound.kind (N.NetStore.net store.now) initial_places.now initial_ages.now target.now scratch.old scratch.new (world_of self.old cells.old places.old) (world_of self.new cells.new places.new) result }
+        ensures { Opens B.Bound.kind (N.NetStore.net store.now) initial_places.now initial_ages.now target.now scratch.old scratch.new (with_book self.old cells.old places.old) (with_book self.new cells.new places.new) result }
     {
         if self.stage != Stage::Blank {
             return Err(CallRefusal::WrongStage);

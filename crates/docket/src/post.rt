@@ -1,10 +1,11 @@
 // Posting a listed zone.
-ghost use Rattle.docket.specs.Dockets.{Tried, state_of, world_of};
+ghost use Rattle.docket.specs.Dockets.{Tried};
 ghost use Rattle.docket_records.specs.ZoneRecords.{zone_of};
 ghost use Rattle.zone_markings.specs.Initial.{marking_of};
 ghost use Rattle.docket_refusals.specs.declared.refusal.CallRefusal.TheVariants.{Covered};
 ghost use Rattle.docket_rules.specs.Calls.{Posted, Posts};
 ghost use Rattle.docket_rules.specs.Tables.{record_rows, row};
+ghost use Rattle.docket_rules.specs.Worlds.{with_book};
 ghost use Rattle.docket_rules.specs.declared.stage.Stage.TheVariants.{Listing};
 ghost use Rattle.std.specs.Prelude.{◌≡◌, ◌<◌, [], ◌∷◌, ◌++◌, length};
 ghost use Rattle.zones.specs.Zones.{Satisfies};
@@ -29,13 +30,13 @@ impl Docket {
         draft: &mut [B],
         zone: &[u8],
     ) -> Result<(), CallRefusal>
-        requires listing { (state_of self.old).stage ≡ Listing }
-        requires room { length (state_of self.old).counts < 64 }
+        requires listing { self.old.stage ≡ Listing }
+        requires room { length self.old.counts < 64 }
         requires full { length cells.old ≡ 5184 }
         requires whole { length places.old ≡ 512 }
         requires drafted { length draft.old ≡ 169 }
         ensures kept { length draft.new ≡ length draft.old }
-        ensures tried { Tried (record_rows B.Bound.kind net_places zone.now ++ row Covered (Satisfies B.Bound.kind 1 (zone_of B.Bound.kind zone.now) (marking_of (state_of self.old).initial)) ∷ []) (Posted B.Bound.kind (zone_of B.Bound.kind zone.now) (world_of self.old cells.old places.old) (world_of self.new cells.new places.new)) (world_of self.old cells.old places.old) (world_of self.new cells.new places.new) result }
+        ensures tried { Tried (record_rows B.Bound.kind net_places zone.now ++ row Covered (Satisfies B.Bound.kind 1 (zone_of B.Bound.kind zone.now) (marking_of self.old.initial)) ∷ []) (Posted B.Bound.kind (zone_of B.Bound.kind zone.now) (with_book self.old cells.old places.old) (with_book self.new cells.new places.new)) (with_book self.old cells.old places.old) (with_book self.new cells.new places.new) result }
     {
         let tokens = read_zone(zone, net_places, draft)?;
         if satisfies(&self.initial, draft, &tokens) {
@@ -56,7 +57,7 @@ impl Docket {
         scratch: &mut [B],
         zone: &[u8],
     ) -> Result<(), CallRefusal>
-        ensures { Posts B.Bound.kind (N.NetStore.net store.now) zone.now scratch.old scratch.new (world_of self.old cells.old places.old) (world_of self.new cells.new places.new) result }
+        ensures { Posts B.Bound.kind (N.NetStore.net store.now) zone.now scratch.old scratch.new (with_book self.old cells.old places.old) (with_book self.new cells.new places.new) result }
     {
         if self.stage != Stage::Listing {
             return Err(CallRefusal::WrongStage);

@@ -25,6 +25,10 @@ pub record World (B : Type 0) : Type 0 where
   pub cells : List B
   pub places : List ℕ
 
+-- a docket's state, with the book that its calls are lent
+abbrev pub with_book : {B : Type 0} → State → (cells : List B) → (places : List ℕ) → World B
+with_book s cells places = record { state = s; cells = cells; places = places }
+
 abbrev pub blank : State
 blank = record { stage = Blank; initial = []; counts = []; taken = 0 }
 

@@ -1,6 +1,6 @@
 use Rattle.std.proofs.Common.{◌≡◌, length, replicate, refl, ap, subst, arith}
 use Rattle.std.proofs.lemmas.Result.{err_from_is_err_and}
-use Rattle.docket.specs.Dockets.{world_of}
+use Rattle.docket_rules.specs.Worlds.{with_book}
 use Rattle.net_handover.specs.HandoverNet.{handover_net}
 use Rattle.docket_example.specs.Checking.{EntryStands, listing, proving}
 use Rattle.docket_example.specs.declared.checking.Entry.TheVariants.{Opening, Zone, ListEnd, Voucher}
@@ -11,8 +11,8 @@ pub returns-in_err-at-clause-exact : goal.returns-in_err-at-clause-exact
 returns-in_err-at-clause-exact c =
     let net = handover_net c.args.line.now.lower c.args.line.now.upper in
     let given = c.args.certificate.now in
-    let w = world_of c.new-docket.result (replicate 5184 c.no_limit-cells.result) (replicate 512 0) in
-    let v = world_of c.open-opened.new.self c.open-opened.new.cells c.open-opened.new.places in
+    let w = with_book c.new-docket.result (replicate 5184 c.no_limit-cells.result) (replicate 512 0) in
+    let v = with_book c.open-opened.new.self c.open-opened.new.cells c.open-opened.new.places in
     let p = err_from_is_err_and c.from_residual.result c.from_residual.ensures.1 in
     let s = begun net given w.state c.no_limit-cells.result c.new-docket.ensures in
     let lent = ap (replicate 169) c.no_limit-scratch.ensures in
@@ -22,8 +22,8 @@ pub loop-number-init : goal.loop-number-init
 loop-number-init c =
     let net = handover_net c.args.line.now.lower c.args.line.now.upper in
     let given = c.args.certificate.now in
-    let w = world_of c.new-docket.result (replicate 5184 c.no_limit-cells.result) (replicate 512 0) in
-    let v = world_of c.open-opened.new.self c.open-opened.new.cells c.open-opened.new.places in
+    let w = with_book c.new-docket.result (replicate 5184 c.no_limit-cells.result) (replicate 512 0) in
+    let v = with_book c.open-opened.new.self c.open-opened.new.cells c.open-opened.new.places in
     let s = begun net given w.state c.no_limit-cells.result c.new-docket.ensures in
     let lent = ap (replicate 169) c.no_limit-scratch.ensures in
     record {
@@ -36,8 +36,8 @@ returns-in_err-at-2-clause-exact c =
     let net = handover_net c.args.line.now.lower c.args.line.now.upper in
     let given = c.args.certificate.now in
     let at = c.loop-number in
-    let w = world_of at.docket at.cells at.book in
-    let v = world_of c.post-posted.new.self c.post-posted.new.cells c.post-posted.new.places in
+    let w = with_book at.docket at.cells at.book in
+    let v = with_book c.post-posted.new.self c.post-posted.new.cells c.post-posted.new.places in
     let p = err_from_is_err_and c.from_residual-in_err-at-2.result c.from_residual-in_err-at-2.ensures.1 in
     rw (p.1, p.2) (stopped net given (c.seals_keep_promises.ensures net c.keeps_limits.ensures) (Zone at.number) w v c.post-posted.result c.in_err-at-2.field-0.0 c.loop-number-test.true c.in_err-at-2.ensures at.invariant.stands (post_step net given at.number w v at.scratch c.post-posted.new.scratch c.post-posted.result at.invariant.lent c.post-posted.ensures))
 
@@ -46,8 +46,8 @@ loop-number-preserved c =
     let net = handover_net c.args.line.now.lower c.args.line.now.upper in
     let given = c.args.certificate.now in
     let at = c.loop-number in
-    let w = world_of at.docket at.cells at.book in
-    let v = world_of c.post-posted.new.self c.post-posted.new.cells c.post-posted.new.places in
+    let w = with_book at.docket at.cells at.book in
+    let v = with_book c.post-posted.new.self c.post-posted.new.cells c.post-posted.new.places in
     record {
       stands =
           subst (λ log. EntryStands net log v) (zone_listed net given at.number c.loop-number-test.true)
@@ -59,16 +59,16 @@ pub returns-in_err-at-3-clause-exact : goal.returns-in_err-at-3-clause-exact
 returns-in_err-at-3-clause-exact c =
     let net = handover_net c.args.line.now.lower c.args.line.now.upper in
     let at = c.loop-number in
-    let w = world_of at.docket at.cells at.book in
-    end_taken net c.args.certificate.now (c.seals_keep_promises.ensures net c.keeps_limits.ensures) at.number w (world_of c.close.new.self at.cells at.book) c.close.result c.in_err-at-3.field-0.0 c.in_err-at-3.ensures at.invariant.stands c.close.ensures
+    let w = with_book at.docket at.cells at.book in
+    end_taken net c.args.certificate.now (c.seals_keep_promises.ensures net c.keeps_limits.ensures) at.number w (with_book c.close.new.self at.cells at.book) c.close.result c.in_err-at-3.field-0.0 c.in_err-at-3.ensures at.invariant.stands c.close.ensures
 
 pub loop-taken-init : goal.loop-taken-init
 loop-taken-init c =
     let net = handover_net c.args.line.now.lower c.args.line.now.upper in
     let given = c.args.certificate.now in
     let at = c.loop-number in
-    let w = world_of at.docket at.cells at.book in
-    let v = world_of c.close.new.self at.cells at.book in
+    let w = with_book at.docket at.cells at.book in
+    let v = with_book c.close.new.self at.cells at.book in
     let all : at.number ≡ length given.zones.now = omega (arith, at.auto.number-end, c.loop-number-test.false) in
     let s = subst (λ n. EntryStands net (listing given n) w) all at.invariant.stands in
     record {
@@ -81,8 +81,8 @@ returns-in_err-at-4-clause-exact c =
     let net = handover_net c.args.line.now.lower c.args.line.now.upper in
     let given = c.args.certificate.now in
     let at = c.loop-taken in
-    let w = world_of at.docket c.loop-number.cells c.loop-number.book in
-    let v = world_of c.discharge-discharged.new.self c.loop-number.cells c.loop-number.book in
+    let w = with_book at.docket c.loop-number.cells c.loop-number.book in
+    let v = with_book c.discharge-discharged.new.self c.loop-number.cells c.loop-number.book in
     let p = err_from_is_err_and c.from_residual-in_err-at-4.result c.from_residual-in_err-at-4.ensures.1 in
     rw (p.1, p.2) (stopped net given c.discharge-discharged.ensures.promise (Voucher at.taken) w v c.discharge-discharged.result c.in_err-at-4.field-0.0 c.loop-taken-test.true c.in_err-at-4.ensures at.invariant.stands (discharge_step net given at.taken w v at.scratch c.discharge-discharged.new.scratch c.discharge-discharged.result at.invariant.lent c.discharge-discharged.ensures.step))
 
@@ -91,8 +91,8 @@ loop-taken-preserved c =
     let net = handover_net c.args.line.now.lower c.args.line.now.upper in
     let given = c.args.certificate.now in
     let at = c.loop-taken in
-    let w = world_of at.docket c.loop-number.cells c.loop-number.book in
-    let v = world_of c.discharge-discharged.new.self c.loop-number.cells c.loop-number.book in
+    let w = with_book at.docket c.loop-number.cells c.loop-number.book in
+    let v = with_book c.discharge-discharged.new.self c.loop-number.cells c.loop-number.book in
     record {
       stands = gone_on net given (Voucher at.taken) w v c.discharge-discharged.result c.in_ok-at-4.field-0 c.in_ok-at-4.ensures refl refl at.invariant.stands (discharge_step net given at.taken w v at.scratch c.discharge-discharged.new.scratch c.discharge-discharged.result at.invariant.lent c.discharge-discharged.ensures.step);
       lent = left_blank c.discharge-discharged.result at.scratch c.discharge-discharged.new.scratch at.invariant.lent c.discharge-discharged.ensures.step.scratch;
@@ -103,7 +103,7 @@ returns-in-Some-clause-exact c =
     let net = handover_net c.args.line.now.lower c.args.line.now.upper in
     let given = c.args.certificate.now in
     let at = c.loop-taken in
-    let w = world_of at.docket c.loop-number.cells c.loop-number.book in
+    let w = with_book at.docket c.loop-number.cells c.loop-number.book in
     let all : at.taken ≡ length given.vouchers.now = omega (arith, at.auto.taken-end, c.loop-taken-test.false) in
     let s = subst (λ n. EntryStands net (proving given n) w) all at.invariant.stands in
     ended_due net given (c.seals_keep_promises.ensures net c.keeps_limits.ensures) w s c.in-Some.item c.in-Some.ensures
@@ -113,7 +113,7 @@ returns-in-None-clause-seal c =
     let net = handover_net c.args.line.now.lower c.args.line.now.upper in
     let given = c.args.certificate.now in
     let at = c.loop-taken in
-    let w = world_of at.docket c.loop-number.cells c.loop-number.book in
+    let w = with_book at.docket c.loop-number.cells c.loop-number.book in
     let all : at.taken ≡ length given.vouchers.now = omega (arith, at.auto.taken-end, c.loop-taken-test.false) in
     let s = subst (λ n. EntryStands net (proving given n) w) all at.invariant.stands in
     λ sealed. seal_holds net given (c.seals_keep_promises.ensures net c.keeps_limits.ensures) w s c.in-None.ensures
@@ -123,7 +123,7 @@ returns-in-None-clause-exact c =
     let net = handover_net c.args.line.now.lower c.args.line.now.upper in
     let given = c.args.certificate.now in
     let at = c.loop-taken in
-    let w = world_of at.docket c.loop-number.cells c.loop-number.book in
+    let w = with_book at.docket c.loop-number.cells c.loop-number.book in
     let all : at.taken ≡ length given.vouchers.now = omega (arith, at.auto.taken-end, c.loop-taken-test.false) in
     let s = subst (λ n. EntryStands net (proving given n) w) all at.invariant.stands in
     ended_sealed net given (c.seals_keep_promises.ensures net c.keeps_limits.ensures) w s c.in-None.ensures

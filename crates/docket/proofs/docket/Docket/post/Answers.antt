@@ -14,10 +14,11 @@ returns g c =
     let kind = g.B.Bound.kind in
     let self = c.args.self.now in
     let tried = c.list-result.ensures.tried in
-    let rows : ℕ → List Row = λ places. record_rows kind places c.args.zone.now ++ row Covered (Satisfies kind 1 (zone_of kind c.args.zone.now) (marking_of self.initial.items)) ∷ [] in
+    let rows : ℕ → List Row = λ places. record_rows kind places c.args.zone.now ++ row Covered (Satisfies kind 1 (zone_of kind c.args.zone.now) (marking_of self.initial)) ∷ [] in
     let listing : self.stage ≡ Listing = search rules in
     let whole : c.is_whole.result ≡ true = search rules in
     let drafted : length c.args.scratch.now ≡ 169 = search rules in
+    let long = ap (λ s. length s.counts) c.self.view_is in
     record {
       answers =
           inr (
@@ -25,7 +26,7 @@ returns g c =
             inr (
               λ h. false≢true (sym h ∙ sym c.is_whole.ensures ∙ whole),
               inr (
-                λ h. false≢true (sym c.if-is_full.false ∙ c.is_full.ensures.value ∙ eq-eqb (length self.counts.items) 64 (omega (arith, h))),
+                λ h. false≢true (sym c.if-is_full.false ∙ c.is_full.ensures.value ∙ eq-eqb (length c.self.inside.counts.items) 64 (omega (arith, h, long))),
                 subst (λ p. Answers (rows p) c.list-result.result) c.places.ensures tried.answers,
               ),
             ),

@@ -1,16 +1,16 @@
-use Rattle.std.proofs.Common.{rules}
-use Rattle.docket.specs.Dockets.{state_of, world_of}
+use Rattle.std.proofs.Common.{ap, sym, ◌∙◌, rules}
+use Rattle.docket_rules.specs.Worlds.{with_book}
 use Rattle.docket.proofs.Weighed.{call_refused, call_taken}
 use Rattle.docket.proofs.docket.Docket.take.Goals as goal
 
 pub returns-in_err-answer : goal.returns-in_err-answer
 returns-in_err-answer g c =
-    call_refused g.B.Bound.kind (g.N.NetStore.net c.args.store.now) (world_of c.args.self.now c.args.cells.now c.args.places.now) c.args.voucher.now c.in-Proving.item
-    c.args.scratch.now c.weigh-answer.new.scratch c.wipe.new.cells c.in-Proving.is (search rules) c.wipe.ensures
+    call_refused g.B.Bound.kind (g.N.NetStore.net c.args.store.now) (with_book c.args.self.now c.args.cells.now c.args.places.now) c.args.voucher.now c.in-Proving.item
+    c.args.scratch.now c.weigh-answer.new.scratch c.wipe.new.cells (ap (λ s. s.stage) (sym c.self.view_is) ∙ c.in-Proving.is) (search rules) c.wipe.ensures
     c.in_err-answer.field-0.0 c.weigh-answer.result c.from_residual.result c.in_err-answer.was (search rules) c.weigh-answer.ensures
 
 pub returns : goal.returns
 returns g c =
-    call_taken g.B.Bound.kind (g.N.NetStore.net c.args.store.now) (world_of c.args.self.now c.args.cells.now c.args.places.now) c.args.voucher.now c.in-Proving.item
-    c.args.scratch.now c.weigh-answer.new.scratch c.wipe.new.cells c.in-Proving.is (search rules) c.wipe.ensures
-    c.weigh-answer.result c.in_ok-answer.was c.weigh-answer.ensures (state_of c.advance.new.self) c.advance.ensures
+    call_taken g.B.Bound.kind (g.N.NetStore.net c.args.store.now) (with_book c.args.self.now c.args.cells.now c.args.places.now) c.args.voucher.now c.in-Proving.item
+    c.args.scratch.now c.weigh-answer.new.scratch c.wipe.new.cells (ap (λ s. s.stage) (sym c.self.view_is) ∙ c.in-Proving.is) (search rules) c.wipe.ensures
+    c.weigh-answer.result c.in_ok-answer.was c.weigh-answer.ensures c.advance.new.self c.advance.ensures

@@ -1,11 +1,11 @@
 use Rattle.std.proofs.Common.{sym, ◌∙◌}
-use Rattle.docket.specs.Dockets.{world_of}
+use Rattle.docket.specs.Dockets.{world_over}
 use Rattle.docket.proofs.Weighed.{weighed}
 use Rattle.docket.proofs.docket.Docket.weigh.Goals as goal
 
 pub returns : goal.returns
 returns g c =
-    weighed g.B.Bound.kind (g.N.NetStore.net c.args.store.now) (world_of c.args.self.now c.args.book.now.cells.now c.args.book.now.places.now) c.args.bytes.now c.args.item
+    weighed g.B.Bound.kind (g.N.NetStore.net c.args.store.now) (world_over c.args.self.now c.args.book.now) c.args.bytes.now c.args.item
     c.page.result.places.now c.page.result.cells.now c.page.ensures.places c.page.ensures.cells
     c.args.scratch.now c.item_zone-asked.new.draft c.item_zone-asked.result c.item_zone-asked.ensures
     c.in_ok-voucher.voucher c.judge.result (sym c.read_voucher.ensures ∙ c.in_ok-voucher.was) c.judge.ensures

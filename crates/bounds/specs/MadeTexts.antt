@@ -1,4 +1,4 @@
--- How a refusal to make a bound is written for people. Assumes nothing.
+-- How a refusal to make a bound is written for people.
 use Rattle.std.specs.Prelude.{ℕ, List, codes}
 use Rattle.bounds.specs.declared.made.MakeError.{MakeError}
 use Rattle.bounds.specs.declared.made.MakeError.TheVariants.{OutsideLimits, MarkNotTaken}

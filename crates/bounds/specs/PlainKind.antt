@@ -1,6 +1,5 @@
 -- What plain bounds mean: a number without a mark, or no limit.
--- Assumes nothing.
-use Rattle.std.specs.Prelude.{◌≡◌, true, false, ℤ, Some, None, Option, refl}
+use Rattle.std.specs.Prelude.{◌≡◌, true, false, ℤ, Some, None, Option, refl, IsTrue}
 use Rattle.std.proofs.lemmas.Bool.{false≢true}
 use Rattle.bounds.specs.Kinds.{Kind}
 use Rattle.bounds.specs.Limits.{Limit, limit_strict}
@@ -37,6 +36,6 @@ plain_kind =
     reads (number c false) h = refl
     reads unlimited h = refl
 
-    marked : (o : Option ℤ) → limit_strict (plain_limit o) ≡ true → false ≡ true
+    marked : (o : Option ℤ) → IsTrue (limit_strict (plain_limit o)) → IsTrue false
     marked (Some c) e = e
     marked None e = e

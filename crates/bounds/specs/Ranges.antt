@@ -1,6 +1,5 @@
 -- Which ages a range holds.
--- Assumes nothing.
-use Rattle.std.specs.Prelude.{ℕ, Bool, ◌&&◌, ℤ, neg_ℤ}
+use Rattle.std.specs.Prelude.{ℕ, Bool, not, ◌&&◌, ℤ, neg_ℤ}
 use Rattle.bounds.specs.Kinds.{Kind}
 use Rattle.bounds.specs.declared.range.Range.{Range}
 
@@ -11,3 +10,7 @@ holds kind k range age = kind.allows k range.upper age && kind.allows k range.lo
 -- the range from 0 without limit
 abbrev pub from_zero : {B : Type 0} → Kind B → Range B
 from_zero kind = record { upper = kind.no_limit; lower = kind.zero }
+
+-- the two bounds sum below zero, so that no age on any grid lies in the range
+abbrev pub below_zero : {B : Type 0} → Kind B → Range B → Bool
+below_zero kind range = not (kind.at_most kind.zero (kind.sum range.upper range.lower))

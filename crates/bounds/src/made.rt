@@ -1,4 +1,4 @@
-// What bounds are made of, and why one could not be made.
+//! What bounds are made of, and why one could not be made.
 ghost use Rattle.bounds.specs.Kinds.{bound_of, largest_number};
 ghost use Rattle.bounds.specs.MadeTexts.{make_error_text};
 ghost use Rattle.bounds.specs.declared.made.MakeError.TheVariants.{OutsideLimits};
@@ -7,14 +7,15 @@ ghost use Rattle.std.specs.Prelude.{◌≡◌, Some, Ok, Err, if◌then◌else�
 use crate::bound::Bound;
 use std::fmt;
 
-// Numbers from -262143 to 262143 make bounds.
+/// Numbers from -262143 to 262143 make bounds.
 pub const LARGEST_NUMBER: i32 = 262_143;
 
+/// Why no bound of a number could be made.
 #[derive(Clone, Copy, PartialEq, Eq, Debug)]
 pub enum MakeError {
-    // the number lies outside -262143 to 262143
+    /// the number lies outside -262143 to 262143
     OutsideLimits,
-    // the kind has no strict bounds
+    /// the kind has no strict bounds
     MarkNotTaken,
 }
 
@@ -29,9 +30,10 @@ impl fmt::Display for MakeError {
     }
 }
 
-// The number, if bounds are made of it.
+/// The number, if bounds are made of it.
 pub fn within_limits(number: i32) -> Result<i64, MakeError>
-    ensures { result ≡ (if nat_le (unsigned_abs number) largest_number then Ok number else Err OutsideLimits) }
+    ensures { result ≡ (if nat_le (unsigned_abs number) largest_number
+        then Ok number else Err OutsideLimits) }
 {
     if (-LARGEST_NUMBER..=LARGEST_NUMBER).contains(&number) {
         Ok(i64::from(number))
@@ -40,7 +42,8 @@ pub fn within_limits(number: i32) -> Result<i64, MakeError>
     }
 }
 
-// The bound of a number, without its mark where the kind takes none; no limit where no bound is made of the number.
+/// The bound of a number, without its mark where the kind takes none; no limit where no bound is made
+/// of the number.
 pub fn bound_of<B: Bound>(number: i32, strict: bool) -> B
     ensures { result ≡ bound_of B.Bound.kind number strict }
 {

@@ -1,4 +1,4 @@
-// Marked bounds: a whole number, perhaps strict, or no limit.
+//! Marked bounds: a whole number, perhaps strict, or no limit.
 ghost use Rattle.bounds.specs.Kinds.{number_allows};
 ghost use Rattle.bounds.specs.Limits.Limit.{number};
 ghost use Rattle.bounds.specs.MarkedKind.{marked_kind, marked_limit};
@@ -10,24 +10,27 @@ use crate::capped::capped_sum;
 use crate::made::{MakeError, within_limits};
 use std::fmt;
 
-// A number with its mark.
+/// A number with its mark.
 #[derive(Clone, Copy, PartialEq, Eq, Debug)]
 pub struct MarkedNumber {
     pub number: i64,
     pub strict: bool,
 }
 
+/// A bound that may be strict.
 #[derive(Clone, Copy, PartialEq, Eq, Debug)]
 pub struct MarkedBound {
     limit: Option<MarkedNumber>,
 }
 
 impl MarkedNumber {
+    /// At most 0, which is no strict bound.
     pub const ZERO: MarkedNumber = MarkedNumber {
         number: 0,
         strict: false,
     };
 
+    /// Whether the difference, in whole units, is at most the number, or less where the bound is strict.
     pub fn allows(self, difference: i64) -> bool
         ensures { result ≡ number_allows 1 self.number self.strict difference }
     {
@@ -40,7 +43,7 @@ impl MarkedNumber {
 }
 
 impl MarkedBound {
-    fn limited(limit: MarkedNumber) -> MarkedBound
+    pub(crate) fn limited(limit: MarkedNumber) -> MarkedBound
         ensures { result ≡ record { limit = Some limit } }
     {
         MarkedBound { limit: Some(limit) }
@@ -63,7 +66,8 @@ impl Bound for MarkedBound {
         Ok(MarkedBound::limited(MarkedNumber { number, strict }))
     }
 
-    // This and `at_most` take bounds apart by matches: the parts of three words stay in registers, and through closures and a pair they do not.
+    // This and `at_most` take bounds apart by matches: the parts of three words stay in registers, and
+    // through closures and a pair they do not.
     fn sum(self, other: MarkedBound) -> MarkedBound {
         let (Some(a), Some(b)) = (self.limit, other.limit) else {
             return MarkedBound { limit: None };

@@ -1,13 +1,16 @@
-// Plain bounds: a whole number, or no limit.
+//! Plain bounds: a whole number, or no limit.
+ghost use Rattle.bounds.specs.MarkedKind.{as_marked};
 ghost use Rattle.bounds.specs.PlainKind.{plain_kind, plain_limit};
 ghost use Rattle.bounds.specs.Texts.{limit_text};
-ghost use Rattle.std.specs.Prelude.{Some};
+ghost use Rattle.std.specs.Prelude.{◌≡◌, Some};
 
 use crate::bound::{Bound, NO_LIMIT_TEXT};
 use crate::capped::capped_sum;
 use crate::made::{MakeError, within_limits};
+use crate::marked::{MarkedBound, MarkedNumber};
 use std::fmt;
 
+/// A bound that is never strict.
 #[derive(Clone, Copy, PartialEq, Eq, Debug)]
 pub struct PlainBound {
     limit: Option<i64>,
@@ -50,6 +53,21 @@ impl Bound for PlainBound {
 
     fn allows(self, difference: i64) -> bool {
         self.limit.is_none_or(|c| difference <= c)
+    }
+}
+
+/// The marked bound that allows the same.
+impl From<PlainBound> for MarkedBound {
+    ghost from_gives = { λ b r. r ≡ as_marked b };
+
+    fn from(bound: PlainBound) -> MarkedBound {
+        match bound.limit {
+            Some(number) => MarkedBound::limited(MarkedNumber {
+                number,
+                strict: false,
+            }),
+            None => MarkedBound::no_limit(),
+        }
     }
 }
 

@@ -18,7 +18,7 @@ use Rattle.docket_dues.proofs.Lists.{every_at, every_from, every_flat, every_map
 use Rattle.docket_dues.proofs.Order.{each_matching}
 use Rattle.docket_dues.proofs.Same.{vouched_same}
 
-module _ {B : Type 0} (kind : Kind B) (net : Net B) (limits : Limits kind net) (initial : Marking) (target : Zone B) (listed : List (Zone B)) (all : AllAnswered kind net initial target listed) where
+module _ {B : Type 0} (kind : Kind B) (net : Net B) (limits : Limits kind net) (starts : ℕ → Marking → Type 0) (target : Zone B) (listed : List (Zone B)) (all : AllAnswered kind net starts target listed) where
   abbrev Done : Item → Type 0
   Done d = Answered kind net target listed d
 
@@ -65,7 +65,7 @@ module _ {B : Type 0} (kind : Kind B) (net : Net B) (limits : Limits kind net) (
   steps_vouched i below =
       record { small = every_at _ listed target all.small i below; delay = delay_vouched i below; firings = λ t matching first last m. firing_vouched i t matching below first last m }
 
-  pub certificate : Certificate kind net initial target listed
+  pub certificate : Certificate kind net starts target listed
   certificate =
       record {
         covered = ⊎_elim (λ void. absurd void) (λ v. vouched_same kind target v.asked listed v.is v.vouched) target_done;
@@ -73,5 +73,5 @@ module _ {B : Type 0} (kind : Kind B) (net : Net B) (limits : Limits kind net) (
         apart = all.apart;
       }
 
-  pub safe : Safe kind net initial target
-  safe = certificates_are_sound kind net initial target listed certificate
+  pub safe : Safe kind net starts target
+  safe = certificates_are_sound kind net starts target listed certificate

@@ -8,8 +8,8 @@ use Rattle.nets.specs.Markings.{Marking}
 use Rattle.nets.specs.Nets.{Net, Every, arcs_of, numbered, transition_of}
 use Rattle.nets.specs.declared.side.Side.TheVariants.{Output}
 use Rattle.zones.specs.Predecessors.{DelayPredecessor, FiringPredecessor, Void, digits_of}
-use Rattle.zones.specs.Safety.{Vouched}
-use Rattle.zones.specs.Zones.{Zone, Satisfies, SizedZone, points}
+use Rattle.zones.specs.Safety.{Apart, Vouched}
+use Rattle.zones.specs.Zones.{Zone, SizedZone, points}
 use Rattle.docket_dues.specs.Dues.{all_due}
 use Rattle.docket_dues.specs.declared.item.Item.{Item}
 
@@ -47,12 +47,12 @@ pub record VouchedFor {B : Type 0} (kind : Kind B) (net : Net B) (target : Zone 
 abbrev pub Answered : {B : Type 0} → Kind B → Net B → (target : Zone B) → List (Zone B) → Item → Type 0
 Answered kind net target listed d = VoidItem kind net target listed d.zone d.transition d.matching ⊎ VouchedFor kind net target listed d
 
--- ---- a list of zones: each is small and without the initial marking, and every item that is due is answered
+-- ---- a list of zones: each is small and without a marking that a run may start from, and every item that is due is answered
 abbrev pub places_of_all : {B : Type 0} → List (Zone B) → List (List ℕ)
 places_of_all listed = map (λ z. z.places) listed
 
-pub record AllAnswered {B : Type 0} (kind : Kind B) (net : Net B) (initial : Marking) (target : Zone B) (listed : List (Zone B)) : Type 0 where
+pub record AllAnswered {B : Type 0} (kind : Kind B) (net : Net B) (starts : ℕ → Marking → Type 0) (target : Zone B) (listed : List (Zone B)) : Type 0 where
   pub few_tokens : Every (λ z. length z.places ≤ 8) listed
   pub small : Every (SizedZone kind largest_size) listed
-  pub apart : Every (λ z. Satisfies kind 1 z initial → ⊥) listed
+  pub apart : Every (Apart kind starts) listed
   pub answered : Every (Answered kind net target listed) (all_due net (places_of_all listed))

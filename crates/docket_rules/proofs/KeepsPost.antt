@@ -1,4 +1,4 @@
--- Post keeps the docket and the log in agreement. Assumes nothing.
+-- Post keeps the docket and the log in agreement.
 use Rattle.std.proofs.Common.{◌≡◌, ℕ, zero, suc, ◌-◌, ◌<◌, ◌≤◌, false, List, [], ◌∷◌, ◌++◌, length, take, get_or, length-append, Ok, Err, Some, None, Option, refl, sym, ap, ◌∙◌, subst, ⊎_elim, arith}
 use Rattle.std.proofs.lemmas.Bool.{cases_lt}
 use Rattle.std.proofs.lemmas.List.{get_or_append_left, get_or-append_right, map-append}
@@ -14,7 +14,7 @@ use Rattle.docket_rules.specs.Calls.{Post, Posted, Step}
 use Rattle.docket_rules.specs.Logs.{Log, Opening, with_call}
 use Rattle.docket_rules.specs.Promise.{stage_said}
 use Rattle.docket_rules.specs.Tables.{Answer, is_listing, post_table}
-use Rattle.docket_rules.specs.Worlds.{World, listed_count, listed_pages, page_of}
+use Rattle.docket_rules.specs.Worlds.{World, listed_count, listed_pages, page_of, whole, with_scratch}
 use Rattle.zones.specs.Zones.{Zone, Satisfies, SizedZone}
 use Rattle.zones.proofs.ZoneLaws.{zones_keep_laws}
 use Rattle.docket_rules.proofs.Agrees.{Agrees, AgreesAs, AgreesOpened, PageAgrees, zone_said}
@@ -25,7 +25,7 @@ use Rattle.docket_rules.proofs.Written.{page_agrees, page_kept, page_still_agree
 
 module _ {B : Type 0} (kind : Kind B) (net : Net B) (z : Zone B) where
   abbrev posted_log : Log B → Log B
-  posted_log log = record { opening = log.opening; listed = log.listed ++ (z ∷ []); closed = log.closed; taken = log.taken }
+  posted_log log = record log { listed = log.listed ++ (z ∷ []) }
 
   -- the zones before keep their numbers, and the new one has the next
   said_before : (o : Opening B) (log : Log B) (p : ℕ) → p ≤ length log.listed → zone_said o (posted_log log) p ≡ zone_said o log p
@@ -94,15 +94,15 @@ module _ {B : Type 0} (kind : Kind B) (net : Net B) (z : Zone B) where
         let long = whole_after kind last z w u step.page full last_below in
         let none_taken = a.fresh listing in
         let due = all_due net (places_of_all (log.listed ++ (z ∷ []))) in
-        let last_apart = λ (m : Satisfies kind 1 (page_of kind u (suc (length log.listed))) o.initial). apart (subst (Satisfies kind 1 z) a.initial ((zones_keep_laws kind).from_form 1 z (page_of kind u (suc (length log.listed))) o.initial (omega arith) small next_page.normal m)) in
+        let last_apart = λ (m : Satisfies kind 1 (page_of kind u (suc (length log.listed))) (marking_of o.initial)). apart (subst (λ i. Satisfies kind 1 z (marking_of i)) (sym a.initial) ((zones_keep_laws kind).from_form 1 z (page_of kind u (suc (length log.listed))) (marking_of o.initial) (omega arith) small next_page.normal m)) in
         record {
           cells = long.cells;
           places = long.places;
-          initial = a.initial ∙ sym (ap (λ s. marking_of s.initial) step.state);
+          initial = ap (λ s. s.initial) step.state ∙ a.initial;
           counts = counts_now ∙ ap (λ l. l ++ (length z.places ∷ [])) a.counts ∙ sym (map-append (λ y. length y.places) (o.target ∷ log.listed) (z ∷ []));
           few = omega (arith, some_left, length-append log.listed (z ∷ []));
           pages = either_page (λ p. PageAgrees kind (zone_said o (posted_log log) p) (page_of kind u p)) still_agrees last_agrees;
-          apart = λ p some below m. either_page (λ q. 1 ≤ q → Satisfies kind 1 (page_of kind u q) o.initial → ⊥) (λ q under first n. a.apart q first under (subst (λ y. Satisfies kind 1 y o.initial) (still q under) n)) (λ first. last_apart) p below some m;
+          apart = λ p some below m. either_page (λ q. 1 ≤ q → Satisfies kind 1 (page_of kind u q) (marking_of o.initial) → ⊥) (λ q under first n. a.apart q first under (subst (λ y. Satisfies kind 1 y (marking_of o.initial)) (still q under) n)) (λ first. last_apart) p below some m;
           answered = subst (λ n. Every (Answered kind net (page_of kind u 0) (listed_pages kind u)) (take n due)) (sym none_taken) tt;
           turn = Some target_item;
           awaits = subst (λ n. Awaits net (places_of_all (log.listed ++ (z ∷ []))) n (Some target_item)) (sym none_taken) (target_leads net (places_of_all (log.listed ++ (z ∷ []))));
@@ -123,8 +123,8 @@ module _ {B : Type 0} (kind : Kind B) (net : Net B) where
   record_small : (bytes : List ℕ) → SizedZone kind largest_size (zone_of kind bytes)
   record_small bytes j i p q = omega (arith, zone_small kind bytes j i p q)
 
-  pub keeps_post : (log : Log B) (w u : World B) (zone : List ℕ) (lent : List B) (answer : Answer) → Agrees kind net log w → Step kind net w (Post zone lent answer) u → Agrees kind net (with_call kind log (Post zone lent answer)) u
-  keeps_post log w u zone lent (Ok t) agrees step =
-      let fails = none_holds (post_table kind net w lent zone) step.1.answers in
+  pub keeps_post : (log : Log B) (w u : World B) (zone : List ℕ) (scratch : List B) (answer : Answer) → Agrees kind net log w → Step kind net w (Post zone scratch answer) u → Agrees kind net (with_call kind log (Post zone scratch answer)) u
+  keeps_post log w u zone scratch (Ok t) agrees step =
+      let fails = none_holds (post_table kind net w.state (whole (with_scratch w scratch)) zone) step.1.answers in
       post_taken kind net (zone_of kind zone) log w u log.opening refl agrees fails.0 fails.1.1.0 (record_small zone) fails.1.1.1.1.1.1.1.1.1.0 (step.1.taken refl)
-  keeps_post log w u zone lent (Err r) agrees step = unmoved kind net log w u (step.1.refused r refl) agrees
+  keeps_post log w u zone scratch (Err r) agrees step = unmoved kind net log w u (step.1.refused r refl) agrees

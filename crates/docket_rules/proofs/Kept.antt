@@ -1,15 +1,14 @@
--- What a docket that agrees with its calls keeps, and so what is promised of every list of calls. Assumes nothing.
+-- What a docket that agrees with its calls keeps, and so what is promised of every list of calls.
 use Rattle.std.proofs.Common.{refl}
 use Rattle.bounds.specs.Kinds.{Kind}
 use Rattle.nets.specs.Nets.{Limits, Net}
 use Rattle.docket_rules.specs.Logs.{Log, no_log, with_calls}
 use Rattle.docket_rules.specs.Promise.{Kept, Promise}
-use Rattle.docket_rules.specs.Worlds.{World, blank}
+use Rattle.docket_rules.specs.Worlds.{World, blank, with_book}
 use Rattle.docket_rules.proofs.Agrees.{Agrees}
 use Rattle.docket_rules.proofs.Keeps.{agrees_blank, keeps_all}
 use Rattle.docket_rules.proofs.KeptExact.{answers_by_rules, initial_known, pages_known, stage_known, taken_known, true_seal}
 use Rattle.docket_rules.proofs.KeptReach.{all_vouched}
-use Rattle.docket_rules.proofs.Moved.{world}
 
 module _ {B : Type 0} (kind : Kind B) (net : Net B) (limits : Limits kind net) where
   kept : (log : Log B) (w : World B) → Agrees kind net log w → Kept kind net log w
@@ -26,4 +25,4 @@ module _ {B : Type 0} (kind : Kind B) (net : Net B) (limits : Limits kind net) w
 
   pub promised : Promise kind net
   promised cells places calls w played =
-      kept (with_calls kind no_log calls) w (keeps_all kind net limits no_log (world blank cells places) w calls (agrees_blank kind net cells places) played)
+      kept (with_calls kind no_log calls) w (keeps_all kind net limits no_log (with_book blank cells places) w calls (agrees_blank kind net cells places) played)

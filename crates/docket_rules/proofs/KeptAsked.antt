@@ -1,4 +1,4 @@
--- What an item asks to vouch for is one zone: two such have the same places and bounds. Assumes nothing.
+-- What an item asks to vouch for is one zone: two such have the same places and bounds.
 use Rattle.std.proofs.Common.{◌≡◌, ℕ, zero, suc, ◌<◌, cond, ◌&&◌, ◌||◌, eqb, List, [], ◌∷◌, length, get_or, sym, ap, ◌∙◌, subst, arith}
 use Rattle.bounds.specs.Kinds.{Kind}
 use Rattle.bounds.specs.declared.range.Range.{Range}

@@ -1,4 +1,4 @@
--- What a docket that agrees with its calls says of its stage and its pages, and that each answer is its table's. Assumes nothing.
+-- What a docket that agrees with its calls says of its stage and its pages, and that each answer is its table's.
 use Rattle.std.proofs.Common.{◌≡◌, zero, suc, Bool, true, false, List, [], ◌∷◌, length, Option, Some, None, sym, refl, ap, ◌∙◌, subst, arith}
 use Rattle.std.proofs.lemmas.Bool.{false≢true}
 use Rattle.std.proofs.lemmas.List.{get_or_default}
@@ -56,8 +56,8 @@ module _ {B : Type 0} (kind : Kind B) (net : Net B) (log : Log B) where
     next_known (Some o) a = ap next_due_of a.1.stage ∙ said_next o log.closed
 
     pub answers_by_rules : (o : Option (Opening B)) → AgreesAs kind net log w o → (c : Call B) (after : World B) → Step kind net w c after → ByRules kind net log w c
-    answers_by_rules o a (Open places ages target lent answer) after s = s.1.answers
-    answers_by_rules o a (Post zone lent answer) after s = s.1.answers
+    answers_by_rules o a (Open g target scratch answer) after s = s.1.answers
+    answers_by_rules o a (Post zone scratch answer) after s = s.1.answers
     answers_by_rules o a (Close answer) after s = s.0.answers
-    answers_by_rules o a (Discharge voucher lent answer) after s = s.1.answers (agrees_sound kind net log w o a)
+    answers_by_rules o a (Discharge voucher scratch answer) after s = s.1.answers (agrees_sound kind net log w o a)
     answers_by_rules o a (NextDue answer) after s = s.0 ∙ next_known o a

@@ -1,4 +1,4 @@
--- The seal of a docket that agrees with its calls is true. Assumes nothing.
+-- The seal of a docket that agrees with its calls is true.
 use Rattle.std.proofs.Common.{◌≡◌, ℕ, suc, ◌-◌, ◌≤◌, Bool, true, false, List, [], ◌∷◌, length, Some, sym, refl, ap, ◌∙◌, subst, arith}
 use Rattle.std.specs.List.{range_with_len}
 use Rattle.std.proofs.lemmas.Bool.{false≢true}
@@ -10,8 +10,10 @@ use Rattle.docket_dues.proofs.Lists.{map_every, number_every}
 use Rattle.docket_dues.proofs.Soundness.{safe}
 use Rattle.docket_dues.proofs.Turns.{all_answered}
 use Rattle.nets.specs.Nets.{Every, Limits, Net}
-use Rattle.zones.specs.Safety.{Safe}
-use Rattle.zones.specs.Zones.{Zone, Satisfies, SizedZone}
+use Rattle.zone_markings.specs.Initial.{marking_of}
+use Rattle.zones.specs.Safety.{Apart, Safe, starts_at}
+use Rattle.zones.specs.Zones.{Zone, SizedZone}
+use Rattle.zones.proofs.Certificates.{apart_at}
 use Rattle.zones.proofs.ZoneLaws.{zones_keep_laws}
 use Rattle.docket_rules.specs.Logs.{Log, Opening, still_due}
 use Rattle.docket_rules.specs.Promise.{proving_stage, stage_said}
@@ -37,16 +39,25 @@ module _ {B : Type 0} (kind : Kind B) (net : Net B) (log : Log B) (o : Opening B
       map_every P (page_of kind w) (range_with_len 1 (listed_count w.state))
       (subst (λ n. Every (λ p. P (page_of kind w p)) (range_with_len 1 n)) count (number_every (λ p. P (page_of kind w p)) 1 (suc (length log.listed)) (λ p some few. each p some (omega (arith, few)))))
 
-  all_done : still_due net log ≡ [] → AllAnswered kind net o.initial (page_of kind w 0) (listed_pages kind w)
+  all_done : still_due net log ≡ [] → AllAnswered kind net (starts_at (marking_of o.initial)) (page_of kind w 0) (listed_pages kind w)
   all_done none =
       record {
         few_tokens = every_page (λ z. length z.places ≤ 8) (λ p some few. (a.pages p few).formed.few);
         small = every_page (SizedZone kind largest_size) (λ p some few j i q r. omega (arith, (a.pages p few).formed.small j i q r));
-        apart = every_page (λ z. Satisfies kind 1 z o.initial → ⊥) a.apart;
+        apart = every_page (Apart kind (starts_at (marking_of o.initial))) (λ p some few. apart_at kind (marking_of o.initial) (page_of kind w p) (a.apart p some few));
         answered = subst (λ l. Every (Answered kind net (page_of kind w 0) (listed_pages kind w)) (all_due net l)) (sym (places_listed kind net log o w a)) (all_answered net (places_of_all log.listed) (Answered kind net (page_of kind w 0) (listed_pages kind w)) log.taken none a.answered);
       }
 
-  pub sealed_true : Limits kind net → w.state.stage ≡ Sealed → Safe kind net o.initial o.target
-  sealed_true limits sealed k m grid run s =
-      safe kind net limits o.initial (page_of kind w 0) (listed_pages kind w) (all_done (nothing_due net log o log.closed (sym a.stage ∙ sealed))) k m grid run
-      ((zones_keep_laws kind).to_form k o.target (page_of kind w 0) m grid (a.pages 0 (omega arith)).normal s)
+  pub sealed_true : Limits kind net → w.state.stage ≡ Sealed → Safe kind net (starts_at (marking_of o.initial)) o.target
+  sealed_true limits sealed c =
+      safe kind net limits (starts_at (marking_of o.initial)) (page_of kind w 0) (listed_pages kind w)
+      (all_done (nothing_due net log o log.closed (sym a.stage ∙ sealed)))
+      (record {
+        grid = c.grid;
+        some = c.some;
+        start = c.start;
+        begins = c.begins;
+        last = c.last;
+        run = c.run;
+        satisfied = (zones_keep_laws kind).to_form c.grid o.target (page_of kind w 0) c.last c.some (a.pages 0 (omega arith)).normal c.satisfied;
+      })

@@ -1,4 +1,4 @@
--- The listed pages as the log has them: as many, and with the same places. Assumes nothing.
+-- The listed pages as the log has them: as many, and with the same places.
 use Rattle.std.proofs.Common.{◌≡◌, ℕ, zero, suc, ◌+◌, ◌<◌, ◌≤◌, List, [], ◌∷◌, map, length, get_or, refl, ap, ◌∙◌, arith}
 use Rattle.std.proofs.lemmas.List.{get_or-map, length-map}
 use Rattle.std.specs.List.{range_with_len}

@@ -1,4 +1,4 @@
--- A book after a page was written: what that page holds, and the pages before it. Assumes nothing.
+-- A book after a page was written: what that page holds, and the pages before it.
 use Rattle.std.proofs.Common.{◌≡◌, ℕ, suc, ◌+◌, ◌*◌, ◌-◌, ◌/◌, ◌%◌, ◌<◌, ◌≤◌, cond, ◌&&◌, eqb, leb, List, ◌++◌, length, take, drop, replicate, take-append-drop, length-append, length-drop, sym, ap, ◌∙◌, subst, arith}
 use Rattle.std.proofs.lemmas.Bool.{le-leb}
 use Rattle.std.proofs.lemmas.List.{take-append-le, drop-append-le, length-take-le, length-replicate}

@@ -1,5 +1,5 @@
 -- How a caller's calls lead on, from the blank docket to what is promised.
--- Assumes nothing.
+--
 use Rattle.std.specs.Prelude.{◌++◌}
 use Rattle.std.proofs.Common.{◌≡◌, ℕ, List, [], ◌∷◌, refl, sym, ap, ◌∙◌, subst}
 use Rattle.bounds.specs.Kinds.{Kind}
@@ -8,7 +8,7 @@ use Rattle.docket_rules.specs.Calls.{Call, Played, Step}
 use Rattle.docket_rules.specs.Logs.{Log, no_log, with_call, with_calls}
 use Rattle.docket_rules.specs.Promise.{Kept, Promise}
 use Rattle.docket_rules.specs.Reached.{ReachedByCalls}
-use Rattle.docket_rules.specs.Worlds.{World, blank}
+use Rattle.docket_rules.specs.Worlds.{World, blank, with_book}
 
 module _ {B : Type 0} (kind : Kind B) (net : Net B) where
   one_more : (w u v : World B) (calls : List (Call B)) (c : Call B) → Played kind net w calls u → Step kind net u c v → Played kind net w (calls ++ (c ∷ [])) v
@@ -19,7 +19,7 @@ module _ {B : Type 0} (kind : Kind B) (net : Net B) where
   logged_more log [] c = refl
   logged_more log (d ∷ calls) c = logged_more (with_call kind log d) calls c
 
-  pub reached_blank : (cells : List B) (places : List ℕ) → ReachedByCalls kind net no_log (record { state = blank; cells = cells; places = places })
+  pub reached_blank : (cells : List B) (places : List ℕ) → ReachedByCalls kind net no_log (with_book blank cells places)
   reached_blank cells places = record { cells = cells; places = places; calls = []; played = refl; logged = refl }
 
   pub reached_step : (log : Log B) (w v : World B) (c : Call B) → ReachedByCalls kind net log w → Step kind net w c v → ReachedByCalls kind net (with_call kind log c) v
@@ -28,7 +28,7 @@ module _ {B : Type 0} (kind : Kind B) (net : Net B) where
         cells = r.cells;
         places = r.places;
         calls = r.calls ++ (c ∷ []);
-        played = one_more (record { state = blank; cells = r.cells; places = r.places }) w v r.calls c r.played step;
+        played = one_more (with_book blank r.cells r.places) w v r.calls c r.played step;
         logged = ap (λ l. with_call kind l c) r.logged ∙ sym (logged_more no_log r.calls c);
       }
 

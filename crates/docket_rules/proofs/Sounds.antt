@@ -1,4 +1,4 @@
--- The pages of a docket that agrees with its calls are sound, and so is the item that is due. Assumes nothing.
+-- The pages of a docket that agrees with its calls are sound, and so is the item that is due.
 use Rattle.std.proofs.Common.{◌≡◌, ℕ, Bool, true, false, List, length, drop, Option, Some, None, refl, sym, ap, ◌∙◌, subst, arith}
 use Rattle.std.proofs.lemmas.Bool.{false≢true}
 use Rattle.bounds.specs.Kinds.{Kind}

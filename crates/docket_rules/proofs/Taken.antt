@@ -1,4 +1,4 @@
--- A call that was taken: no row of its table holds, and so it came in the stage that it asks for. Assumes nothing.
+-- A call that was taken: no row of its table holds, and so it came in the stage that it asks for.
 use Rattle.std.proofs.Common.{◌≡◌, Bool, true, false, List, [], ◌∷◌, Ok, Err, Some, refl, subst, ⊎_elim}
 use Rattle.docket_dues.specs.declared.item.Item.{Item}
 use Rattle.nets.specs.Nets.{Net}

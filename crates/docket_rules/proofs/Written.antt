@@ -1,24 +1,25 @@
--- A docket's pages after one was written: that page holds its zone's normal form, and the pages before it are as they were. Assumes nothing.
-use Rattle.std.proofs.Common.{◌≡◌, ℕ, ◌*◌, ◌<◌, ◌≤◌, true, ◌&&◌, eqb, List, length, take, drop, get_or, sym, ap, ◌∙◌, subst, arith}
+-- A docket's pages after one was written: that page holds its zone's normal form, and the pages before it are as they were.
+use Rattle.std.proofs.Common.{◌≡◌, ℕ, ◌*◌, ◌<◌, ◌≤◌, true, eqb, List, length, take, drop, get_or, sym, ap, ◌∙◌, subst, arith}
 use Rattle.std.proofs.lemmas.Bool.{and_parts, eqb-true}
 use Rattle.bounds.specs.Kinds.{Kind}
+use Rattle.zone_cells.specs.Sizes.{draft_cells}
 use Rattle.zone_cells.specs.Objections.{page_zone}
 use Rattle.zones.specs.Zones.{Zone}
 use Rattle.docket_rules.specs.Calls.{PageWritten, cells_of, page_places_of}
-use Rattle.docket_rules.specs.Worlds.{World, page_of, whole}
+use Rattle.docket_rules.specs.Worlds.{World, book_cells, book_places, book_whole, page_of, whole, with_scratch}
 use Rattle.docket_rules.proofs.Agrees.{PageAgrees}
 use Rattle.docket_rules.proofs.Pages.{formed_held, normal_held, page_holds, page_old, page_then, length-cells_of, length-page_places_of, length-with_page}
 
 -- ---- memory of the stated lengths
 pub record Whole {B : Type 0} (w : World B) : Type 0 where
-  pub cells : length w.cells ≡ 5184
-  pub places : length w.places ≡ 512
+  pub cells : length w.cells ≡ book_cells
+  pub places : length w.places ≡ book_places
 
-pub whole_parts : {B : Type 0} (w : World B) (lent : List B) → whole w lent ≡ true → Whole w
-whole_parts w lent e =
-    let parts = and_parts (eqb (length w.cells) 5184) (eqb (length w.places) 512 && eqb (length lent) 169) e in
-    let rest = and_parts (eqb (length w.places) 512) (eqb (length lent) 169) parts.1 in
-    record { cells = eqb-true (length w.cells) 5184 parts.0; places = eqb-true (length w.places) 512 rest.0 }
+pub whole_parts : {B : Type 0} (w : World B) (scratch : List B) → whole (with_scratch w scratch) ≡ true → Whole w
+whole_parts w scratch e =
+    let parts = and_parts (book_whole w) (eqb (length scratch) draft_cells) e in
+    let book = and_parts (eqb (length w.cells) book_cells) (eqb (length w.places) book_places) parts.0 in
+    record { cells = eqb-true (length w.cells) book_cells book.0; places = eqb-true (length w.places) book_places book.1 }
 
 module _ {B : Type 0} (kind : Kind B) (p : ℕ) (z : Zone B) (before after : World B) (page : PageWritten kind p z before after) (full : Whole before) (below : p < 64) where
   pub whole_after : Whole after

@@ -1,22 +1,19 @@
 -- What each call answers, and what then stands in the docket, the book and the scratch page.
---     lent    the scratch page before the call
---     left    the scratch page after it
--- Assumes nothing.
 use Rattle.std.specs.Prelude.{◌≡◌, ℕ, ◌+◌, ◌-◌, ◌*◌, ◌^◌, ◌/◌, ◌%◌, ◌<◌, ◌≤◌, Bool, true, false, cond, ◌&&◌, List, [], ◌∷◌, ◌++◌, map, length, take, drop, replicate, Ok, Err, None, Some, Option, ◌==◌, nat_le, min}
-use Rattle.std.specs.List.{range_with_len, zip}
+use Rattle.std.specs.List.{range_with_len}
 use Rattle.bounds.specs.Kinds.{Kind}
 use Rattle.zone_cells.specs.Drafts.{largest_listed, most_tokens}
+use Rattle.zone_cells.specs.Sizes.{draft_cells, page_cells, page_places}
 use Rattle.docket_dues.specs.Answered.{Answered, places_of_all}
 use Rattle.docket_dues.specs.DueLaws.{IsDue}
 use Rattle.docket_dues.specs.Dues.{Leads, target_item}
 use Rattle.docket_dues.specs.declared.item.Item.{Item}
 use Rattle.docket_records.specs.ZoneRecords.{zone_of}
-use Rattle.docket_records.specs.declared.token.InitialToken.{InitialToken}
 use Rattle.nets.specs.Nets.{Net}
 use Rattle.docket_refusals.specs.declared.refusal.CallRefusal.{CallRefusal}
 use Rattle.docket_refusals.specs.declared.refusal.CallRefusal.TheVariants.{WrongStage, WrongMemory, FullList, Entry, Covered, NotVoid, VoidItem as IsVoid, NoSuchZone, Objected}
-use Rattle.docket_rules.specs.Tables.{Answer, Answers, open_table, post_table, close_table, discharge_table, discharge_rows, Begins, due_in, is_proving}
-use Rattle.docket_rules.specs.Worlds.{State, World, listed_pages, page_of}
+use Rattle.docket_rules.specs.Tables.{Answer, Answers, Given, initial_tokens, open_table, post_table, close_table, discharge_table, discharge_rows, Begins, due_in, is_proving}
+use Rattle.docket_rules.specs.Worlds.{Lent, State, World, listed_pages, page_of, whole, with_scratch}
 use Rattle.docket_rules.specs.declared.stage.Stage.{Stage}
 use Rattle.docket_rules.specs.declared.stage.Stage.TheVariants.{Blank, Listing, Proving, Sealed}
 use Rattle.zone_walks.specs.Walks.{Matrix}
@@ -36,8 +33,9 @@ is_early (Err IsVoid) = false
 is_early (Err NoSuchZone) = false
 is_early (Err (Objected o)) = false
 
-abbrev pub Left : {B : Type 0} → Kind B → Answer → (lent left : List B) → Type 0
-Left kind answer lent left = left ≡ cond (is_early answer) lent (replicate 169 kind.no_limit)
+abbrev pub Left : {B : Type 0} → Kind B → Answer → (before after : List B) → Type 0
+Left kind answer before after =
+    after ≡ cond (is_early answer) before (replicate draft_cells kind.no_limit)
 
 -- ---- a page written
 -- the cells of a zone with so many tokens, row by row: the zone's own bounds between its points; else zero from a point to itself, and no limit
@@ -45,11 +43,11 @@ abbrev pub cell_of : {B : Type 0} → Kind B → (tokens : ℕ) → Matrix B →
 cell_of kind tokens x j i = cond (nat_le j tokens && nat_le i tokens) (x j i) (cond (j == i) kind.zero kind.no_limit)
 
 abbrev pub cells_of : {B : Type 0} → Kind B → Zone B → List B
-cells_of kind z = map (λ at. cell_of kind (length z.places) z.bound (at / 9) (at % 9)) (range_with_len 0 81)
+cells_of kind z = map (λ at. cell_of kind (length z.places) z.bound (at / 9) (at % 9)) (range_with_len 0 page_cells)
 
 -- the places of its tokens, 0 for absent ones
 abbrev pub page_places_of : {B : Type 0} → Zone B → List ℕ
-page_places_of z = z.places ++ replicate (8 - length z.places) 0
+page_places_of z = z.places ++ replicate (page_places - length z.places) 0
 
 -- the page with this number has these items, and every other page what it had
 abbrev pub with_page : {X : Type 0} → (size p : ℕ) → (items book : List X) → List X
@@ -66,39 +64,36 @@ pub record PageWritten {B : Type 0} (kind : Kind B) (p : ℕ) (z : Zone B) (befo
   pub form : Zone B
   pub normal : NormalOf kind z form
   pub formed : PageFormed kind form
-  pub cells : after.cells ≡ with_page 81 p (cells_of kind form) before.cells
-  pub places : after.places ≡ with_page 8 p (page_places_of form) before.places
+  pub cells : after.cells ≡ with_page page_cells p (cells_of kind form) before.cells
+  pub places : after.places ≡ with_page page_places p (page_places_of form) before.places
 
 -- ---- open
-abbrev pub initial_tokens : (places ages : List ℕ) → List InitialToken
-initial_tokens places ages = map (λ given. record { place = given.0; age = given.1 }) (zip places ages)
-
-pub record Opened {B : Type 0} (kind : Kind B) (places ages : List ℕ) (target : Zone B) (before after : World B) : Type 0 where
-  pub state : after.state ≡ record { stage = Listing; initial = initial_tokens places ages; counts = length target.places ∷ []; taken = 0 }
+pub record Opened {B : Type 0} (kind : Kind B) (g : Given) (target : Zone B) (before after : World B) : Type 0 where
+  pub state : after.state ≡ record { stage = Listing; initial = initial_tokens g; counts = length target.places ∷ []; taken = 0 }
   pub page : PageWritten kind 0 target before after
 
-pub record Opens {B : Type 0} (kind : Kind B) (net : Net B) (places ages target : List ℕ) (lent left : List B) (before after : World B) (answer : Answer) : Type 0 where
-  pub answers : Answers (open_table kind net before lent places ages target) answer
-  pub scratch : Left kind answer lent left
-  pub refused : (r : CallRefusal) → answer ≡ Err r → after ≡ before
-  pub taken : answer ≡ Ok tt → Opened kind places ages (zone_of kind target) before after
+pub record Opens {B : Type 0} (kind : Kind B) (net : Net B) (g : Given) (target : List ℕ) (before after : Lent B) (answer : Answer) : Type 0 where
+  pub answers : Answers (open_table kind net before.world.state (whole before) g target) answer
+  pub scratch : Left kind answer before.scratch after.scratch
+  pub refused : (r : CallRefusal) → answer ≡ Err r → after.world ≡ before.world
+  pub taken : answer ≡ Ok tt → Opened kind g (zone_of kind target) before.world after.world
 
 -- ---- post
 pub record Posted {B : Type 0} (kind : Kind B) (zone : Zone B) (before after : World B) : Type 0 where
-  pub state : after.state ≡ record { stage = Listing; initial = before.state.initial; counts = before.state.counts ++ (length zone.places ∷ []); taken = before.state.taken }
+  pub state : after.state ≡ record before.state { stage = Listing; counts = before.state.counts ++ (length zone.places ∷ []) }
   pub page : PageWritten kind (length before.state.counts) zone before after
 
-pub record Posts {B : Type 0} (kind : Kind B) (net : Net B) (zone : List ℕ) (lent left : List B) (before after : World B) (answer : Answer) : Type 0 where
-  pub answers : Answers (post_table kind net before lent zone) answer
-  pub scratch : Left kind answer lent left
-  pub refused : (r : CallRefusal) → answer ≡ Err r → after ≡ before
-  pub taken : answer ≡ Ok tt → Posted kind (zone_of kind zone) before after
+pub record Posts {B : Type 0} (kind : Kind B) (net : Net B) (zone : List ℕ) (before after : Lent B) (answer : Answer) : Type 0 where
+  pub answers : Answers (post_table kind net before.world.state (whole before) zone) answer
+  pub scratch : Left kind answer before.scratch after.scratch
+  pub refused : (r : CallRefusal) → answer ≡ Err r → after.world ≡ before.world
+  pub taken : answer ≡ Ok tt → Posted kind (zone_of kind zone) before.world after.world
 
 -- ---- close
 pub record Closes (before after : State) (answer : Answer) : Type 0 where
   pub answers : Answers (close_table before) answer
   pub refused : (r : CallRefusal) → answer ≡ Err r → after ≡ before
-  pub taken : answer ≡ Ok tt → after ≡ record { stage = Proving target_item; initial = before.initial; counts = before.counts; taken = 0 }
+  pub taken : answer ≡ Ok tt → after ≡ record before { stage = Proving target_item; taken = 0 }
 
 -- ---- discharge
 -- the item that follows among those that are due, or the seal
@@ -117,22 +112,21 @@ pub record Sound {B : Type 0} (kind : Kind B) (net : Net B) (w : World B) : Type
   pub pages : (p : ℕ) → p < length w.state.counts → PageFormed kind (page_of kind w p)
   pub due : IsDue net (places_of_all (listed_pages kind w)) (due_in w.state.stage)
 
-pub record Discharged {B : Type 0} (kind : Kind B) (net : Net B) (before after : World B) : Type 0 where
+pub record Discharged {B : Type 0} (kind : Kind B) (net : Net B) (before : World B) (after : State) : Type 0 where
   pub next : Option Item
   pub leads : Leads net (places_of_all (listed_pages kind before)) (due_in before.state.stage) next
-  pub state : after.state ≡ record { stage = stage_of next; initial = before.state.initial; counts = before.state.counts; taken = min (before.state.taken + 1) most_taken }
-  pub cells : after.cells ≡ before.cells
-  pub places : after.places ≡ before.places
+  pub state : after ≡ record before.state { stage = stage_of next; taken = min (before.state.taken + 1) most_taken }
   -- the item is void, or a listed zone vouches for what it asks
   pub answered : Sound kind net before → Answered kind net (page_of kind before 0) (listed_pages kind before) (due_in before.state.stage)
 
--- What the voucher itself can be refused for is promised whatever the pages hold; the rest for pages as open and post left them.
-pub record Discharges {B : Type 0} (kind : Kind B) (net : Net B) (bytes : List ℕ) (lent left : List B) (before after : World B) (answer : Answer) : Type 0 where
-  pub begins : Begins (discharge_rows before lent bytes) answer
-  pub answers : Sound kind net before → Answers (discharge_table kind net before lent bytes) answer
-  pub scratch : Left kind answer lent left
-  pub refused : (r : CallRefusal) → answer ≡ Err r → after ≡ before
-  pub taken : answer ≡ Ok tt → Discharged kind net before after
+-- What the voucher itself can be refused for is promised whatever the pages hold; the rest for
+-- pages as open and post left them. Nothing is written to the book.
+pub record Discharges {B : Type 0} (kind : Kind B) (net : Net B) (bytes : List ℕ) (before : Lent B) (after : State) (left : List B) (answer : Answer) : Type 0 where
+  pub begins : Begins (discharge_rows before.world.state (whole before) bytes) answer
+  pub answers : Sound kind net before.world → Answers (discharge_table kind net before.world.state (whole before) (page_of kind before.world) bytes) answer
+  pub scratch : Left kind answer before.scratch left
+  pub refused : (r : CallRefusal) → answer ≡ Err r → after ≡ before.world.state
+  pub taken : answer ≡ Ok tt → Discharged kind net before.world after
 
 -- ---- next-due
 -- the first item that is due; none outside proving
@@ -144,21 +138,37 @@ next_due_of Sealed = None
 
 -- ---- a call with what it was given and what it answered
 pub data Call (B : Type 0) : Type 0 where
-  Open : (places ages target : List ℕ) (lent : List B) (answer : Answer) → Call B
-  Post : (zone : List ℕ) (lent : List B) (answer : Answer) → Call B
+  Open : (g : Given) (target : List ℕ) (scratch : List B) (answer : Answer) → Call B
+  Post : (zone : List ℕ) (scratch : List B) (answer : Answer) → Call B
   Close : (answer : Answer) → Call B
-  Discharge : (voucher : List ℕ) (lent : List B) (answer : Answer) → Call B
+  Discharge : (voucher : List ℕ) (scratch : List B) (answer : Answer) → Call B
   NextDue : (answer : Option Item) → Call B
 
--- the scratch page may be another one at each call
-abbrev pub Step : {B : Type 0} → Kind B → Net B → World B → Call B → World B → Type 0
-Step kind net before (Open places ages target lent answer) after = (left : List _) × Opens kind net places ages target lent left before after answer
-Step kind net before (Post zone lent answer) after = (left : List _) × Posts kind net zone lent left before after answer
-Step kind net before (Close answer) after = Closes before.state after.state answer × (after.cells ≡ before.cells) × (after.places ≡ before.places)
-Step kind net before (Discharge voucher lent answer) after = (left : List _) × Discharges kind net voucher lent left before after answer
-Step kind net before (NextDue answer) after = (answer ≡ next_due_of before.state.stage) × (after ≡ before)
+-- a call that is lent no book to write to
+pub record BookKept {B : Type 0} (before after : World B) : Type 0 where
+  pub cells : after.cells ≡ before.cells
+  pub places : after.places ≡ before.places
 
--- calls one after the other, on one docket, over one store and one book that nothing else writes to between them
+-- the scratch page may be another one at each call; left is what then stands in it
+abbrev pub Step : {B : Type 0} → Kind B → Net B → World B → Call B → World B → Type 0
+Step kind net before (Open g target scratch answer) after =
+    (left : List _)
+    × Opens kind net g target (with_scratch before scratch) (with_scratch after left) answer
+Step kind net before (Post zone scratch answer) after =
+    (left : List _)
+    × Posts kind net zone (with_scratch before scratch) (with_scratch after left) answer
+Step kind net before (Close answer) after =
+    Closes before.state after.state answer × BookKept before after
+Step kind net before (Discharge voucher scratch answer) after =
+    (left : List _)
+    × Discharges kind net voucher (with_scratch before scratch) after.state left answer
+    × BookKept before after
+Step kind net before (NextDue answer) after =
+    (answer ≡ next_due_of before.state.stage) × (after ≡ before)
+
+-- calls one after the other, on one docket, over one store and one book that nothing else writes to
+-- between them
 abbrev pub Played : {B : Type 0} → Kind B → Net B → World B → List (Call B) → World B → Type 0
 Played kind net w [] u = u ≡ w
-Played kind net w (c ∷ calls) u = (v : World _) × Step kind net w c v × Played kind net v calls u
+Played kind net w (c ∷ calls) u =
+    (v : World _) × Step kind net w c v × Played kind net v calls u

@@ -1,20 +1,19 @@
 -- What a list of calls has put into a docket, told by the calls that were taken alone.
--- Assumes nothing.
 use Rattle.std.specs.Prelude.{ℕ, ◌+◌, Bool, true, false, List, [], ◌∷◌, ◌++◌, Ok, Err, Some, None, Option, drop}
 use Rattle.bounds.specs.Kinds.{Kind}
 use Rattle.docket_dues.specs.Answered.{places_of_all}
 use Rattle.docket_dues.specs.Dues.{all_due}
 use Rattle.docket_dues.specs.declared.item.Item.{Item}
 use Rattle.docket_records.specs.ZoneRecords.{zone_of}
-use Rattle.zone_markings.specs.Initial.{marking_of}
-use Rattle.nets.specs.Markings.{Marking}
+use Rattle.docket_records.specs.declared.token.InitialToken.{InitialToken}
 use Rattle.nets.specs.Nets.{Net}
-use Rattle.docket_rules.specs.Calls.{Call, Open, Post, Close, Discharge, NextDue, initial_tokens}
+use Rattle.docket_rules.specs.Calls.{Call, Open, Post, Close, Discharge, NextDue}
+use Rattle.docket_rules.specs.Tables.{initial_tokens}
 use Rattle.zones.specs.Zones.{Zone}
 
 -- what the open that was taken has given
 pub record Opening (B : Type 0) : Type 0 where
-  pub initial : Marking
+  pub initial : List InitialToken
   pub target : Zone B
 
 pub record Log (B : Type 0) : Type 0 where
@@ -31,14 +30,16 @@ no_log = record { opening = None; listed = []; closed = false; taken = 0 }
 
 -- a call that was refused leaves no trace
 abbrev pub with_call : {B : Type 0} → Kind B → Log B → Call B → Log B
-with_call kind log (Open places ages target lent (Ok u)) = record { opening = Some (record { initial = marking_of (initial_tokens places ages); target = zone_of kind target }); listed = log.listed; closed = log.closed; taken = log.taken }
-with_call kind log (Open places ages target lent (Err r)) = log
-with_call kind log (Post zone lent (Ok u)) = record { opening = log.opening; listed = log.listed ++ (zone_of kind zone ∷ []); closed = log.closed; taken = log.taken }
-with_call kind log (Post zone lent (Err r)) = log
-with_call kind log (Close (Ok u)) = record { opening = log.opening; listed = log.listed; closed = true; taken = log.taken }
+with_call kind log (Open g target scratch (Ok u)) =
+    record log { opening = Some (record { initial = initial_tokens g; target = zone_of kind target }) }
+with_call kind log (Open g target scratch (Err r)) = log
+with_call kind log (Post zone scratch (Ok u)) =
+    record log { listed = log.listed ++ (zone_of kind zone ∷ []) }
+with_call kind log (Post zone scratch (Err r)) = log
+with_call kind log (Close (Ok u)) = record log { closed = true }
 with_call kind log (Close (Err r)) = log
-with_call kind log (Discharge voucher lent (Ok u)) = record { opening = log.opening; listed = log.listed; closed = log.closed; taken = log.taken + 1 }
-with_call kind log (Discharge voucher lent (Err r)) = log
+with_call kind log (Discharge voucher scratch (Ok u)) = record log { taken = log.taken + 1 }
+with_call kind log (Discharge voucher scratch (Err r)) = log
 with_call kind log (NextDue answer) = log
 
 abbrev pub with_calls : {B : Type 0} → Kind B → Log B → List (Call B) → Log B

@@ -1,10 +1,10 @@
 -- When each call is refused, and by which refusal.
 --     row       a refusal and the condition that brings it about
 --     table     the rows of a call in the order in which they are tested: the first that holds is the answer, and none is "taken"
---     lent      the scratch page that the call is lent
--- Assumes nothing.
-use Rattle.std.specs.Prelude.{◌≡◌, ℕ, Bool, true, false, ◌&&◌, ◌||◌, ◌⊎◌, List, [], ◌∷◌, ◌++◌, length, take, Ok, Err, Result, cond, ◌==◌, nat_le, nat_lt, slice_index}
-use Rattle.std.specs.List.{list_any}
+--     sized     the lent book and scratch page have the stated lengths
+--     zones     the zones by their numbers, the target's 0, as their pages hold them
+use Rattle.std.specs.Prelude.{◌≡◌, ℕ, Bool, true, false, ◌&&◌, ◌||◌, ◌⊎◌, List, [], ◌∷◌, ◌++◌, length, map, take, Ok, Err, Result, cond, ◌==◌, nat_le, nat_lt, slice_index}
+use Rattle.std.specs.List.{list_any, zip}
 use Rattle.zone_pages.specs.Objections.{objection_of}
 use Rattle.zone_pages.specs.declared.objections.Objection.{Objection}
 use Rattle.zone_pages.specs.declared.objections.Objection.TheVariants.{Partner, Place, Bound}
@@ -15,12 +15,13 @@ use Rattle.docket_dues.specs.declared.item.Item.{Item}
 use Rattle.docket_records.specs.Vouchers.{unused_set, voucher_of, voucher_spare}
 use Rattle.docket_records.specs.ZoneRecords.{mark_under_plain, no_such_place, not_zero, too_many, wrong_length, zone_of}
 use Rattle.docket_records.specs.declared.fault.EntryRefusal.TheVariants.{WrongLength, NotZero, TooMany, NoSuchPlace, MarkUnderPlain, Inconsistent as NotConsistent}
+use Rattle.docket_records.specs.declared.token.InitialToken.{InitialToken}
 use Rattle.docket_records.specs.declared.voucher.Voucher.{Voucher}
 use Rattle.zone_markings.specs.Initial.{marking_of}
 use Rattle.nets.specs.Nets.{Net}
 use Rattle.docket_refusals.specs.declared.refusal.CallRefusal.{CallRefusal}
 use Rattle.docket_refusals.specs.declared.refusal.CallRefusal.TheVariants.{WrongStage, WrongMemory, FullList, Entry, Covered, NotVoid, VoidItem as IsVoid, NoSuchZone, Objected}
-use Rattle.docket_rules.specs.Worlds.{State, World, in_list, listed_count, listed_pages, page_of, whole}
+use Rattle.docket_rules.specs.Worlds.{State, in_list, listed_count, listed_zones}
 use Rattle.docket_rules.specs.declared.stage.Stage.{Stage}
 use Rattle.docket_rules.specs.declared.stage.Stage.TheVariants.{Blank, Listing, Proving, Sealed}
 use Rattle.zones.specs.Zones.{Zone, Inconsistent, Satisfies}
@@ -89,52 +90,58 @@ record_rows kind net_places bytes =
     ∷ []
 
 -- ---- open: a place and an age for each initial token, and the target's record
+pub record Given : Type 0 where
+  pub places : List ℕ
+  pub ages : List ℕ
+
+abbrev pub given : (places ages : List ℕ) → Given
+given places ages = record { places = places; ages = ages }
+
+-- an age for each place
+abbrev pub even : Given → Bool
+even g = length g.places == length g.ages
+
+abbrev pub initial_tokens : Given → List InitialToken
+initial_tokens g = map (λ both. record { place = both.0; age = both.1 }) (zip g.places g.ages)
+
 abbrev pub too_old : ℕ → Bool
 too_old age = nat_lt 32767 age
 
-abbrev pub initial_rows : (net_places : ℕ) → (places ages : List ℕ) → List Row
-initial_rows net_places places ages =
-    row (Entry TooMany) (nat_lt 8 (length places) || list_any too_old ages ≡ true)
-    ∷ row (Entry NoSuchPlace) (list_any (nat_le net_places) places ≡ true)
+abbrev pub initial_rows : (net_places : ℕ) → Given → List Row
+initial_rows net_places g =
+    row (Entry TooMany) (nat_lt 8 (length g.places) || list_any too_old g.ages ≡ true)
+    ∷ row (Entry NoSuchPlace) (list_any (nat_le net_places) g.places ≡ true)
     ∷ []
 
-abbrev pub open_table : {B : Type 0} → Kind B → Net B → World B → (lent : List B) → (places ages target : List ℕ) → List Row
-open_table kind net w lent places ages target =
-    row WrongStage (is_blank w.state.stage ≡ false)
-    ∷ row WrongMemory (whole w lent && length places == length ages ≡ false)
-    ∷ initial_rows net.places places ages ++ record_rows kind net.places target
+abbrev pub open_table : {B : Type 0} → Kind B → Net B → State → (sized : Bool) → Given →
+    (target : List ℕ) → List Row
+open_table kind net s sized g target =
+    row WrongStage (is_blank s.stage ≡ false)
+    ∷ row WrongMemory (sized && even g ≡ false)
+    ∷ initial_rows net.places g ++ record_rows kind net.places target
 
 -- ---- post: a listed zone's record
-abbrev pub post_table : {B : Type 0} → Kind B → Net B → World B → (lent : List B) → (zone : List ℕ) → List Row
-post_table kind net w lent zone =
-    row WrongStage (is_listing w.state.stage ≡ false)
-    ∷ row WrongMemory (whole w lent ≡ false)
-    ∷ row FullList (listed_count w.state ≡ 63)
-    ∷ record_rows kind net.places zone ++ row Covered (Satisfies kind 1 (zone_of kind zone) (marking_of w.state.initial)) ∷ []
+abbrev pub post_table : {B : Type 0} → Kind B → Net B → State → (sized : Bool) →
+    (zone : List ℕ) → List Row
+post_table kind net s sized zone =
+    row WrongStage (is_listing s.stage ≡ false)
+    ∷ row WrongMemory (sized ≡ false)
+    ∷ row FullList (listed_count s ≡ 63)
+    ∷ record_rows kind net.places zone
+    ++ row Covered (Satisfies kind 1 (zone_of kind zone) (marking_of s.initial)) ∷ []
 
 -- ---- close
 abbrev pub close_table : State → List Row
 close_table s = row WrongStage (is_listing s.stage ≡ false) ∷ []
 
 -- ---- discharge: six bytes for the first item that is due
--- how many partners a voucher uses: one for each token of its listed zone; one outside the list uses all eight
+-- how many partners a voucher uses: one for each token of its listed zone; one outside the list
+-- uses all eight
 abbrev pub partners_used : State → Voucher → ℕ
 partners_used s v = cond (in_list s v.zone) (slice_index s.counts v.zone) 8
 
 abbrev pub pairing_of : State → Voucher → List ℕ
 pairing_of s v = take (slice_index s.counts v.zone) v.partners
-
-abbrev pub IsVoidItem : {B : Type 0} → Kind B → Net B → World B → Item → Type 0
-IsVoidItem kind net w d = VoidItem kind net (page_of kind w 0) (listed_pages kind w) d.zone d.transition d.matching
-
-abbrev pub Asks : {B : Type 0} → Kind B → Net B → World B → Item → Zone B → Type 0
-Asks kind net w d asked = ItemZone kind net (page_of kind w 0) (listed_pages kind w) d.zone d.transition d.matching asked
-
--- this objection stands against the zone that the voucher names
-pub record Against {B : Type 0} (kind : Kind B) (net : Net B) (w : World B) (d : Item) (v : Voucher) (objection : Objection) : Type 0 where
-  pub asked : Zone B
-  pub asks : Asks kind net w d asked
-  pub stands : objection_of kind (page_of kind w v.zone) asked (pairing_of w.state v) ≡ Err objection
 
 abbrev pub voucher_rows : State → (bytes : List ℕ) → List Row
 voucher_rows s bytes =
@@ -142,21 +149,39 @@ voucher_rows s bytes =
     ∷ row (Entry NotZero) (voucher_spare bytes || unused_set (voucher_of bytes) (partners_used s (voucher_of bytes)) ≡ true)
     ∷ []
 
-abbrev pub item_rows : {B : Type 0} → Kind B → Net B → World B → Item → Voucher → List Row
-item_rows kind net w d v =
-    row NotVoid ((v.void ≡ true) × (IsVoidItem kind net w d → ⊥))
-    ∷ row IsVoid ((v.void ≡ false) × IsVoidItem kind net w d)
-    ∷ row NoSuchZone ((v.void ≡ false) × (in_list w.state v.zone ≡ false))
-    ∷ row (Objected Partner) ((v.void ≡ false) × Against kind net w d v Partner)
-    ∷ row (Objected Place) ((v.void ≡ false) × Against kind net w d v Place)
-    ∷ row (Objected Bound) ((v.void ≡ false) × Against kind net w d v Bound)
+abbrev pub IsVoidItem : {B : Type 0} → Kind B → Net B → State → (zones : ℕ → Zone B) → Item → Type 0
+IsVoidItem kind net s zones d =
+    VoidItem kind net (zones 0) (listed_zones s zones) d.zone d.transition d.matching
+
+abbrev pub Asks : {B : Type 0} → Kind B → Net B → State → (zones : ℕ → Zone B) → Item → Zone B → Type 0
+Asks kind net s zones d asked =
+    ItemZone kind net (zones 0) (listed_zones s zones) d.zone d.transition d.matching asked
+
+-- this objection stands against the zone that the voucher names
+pub record Against {B : Type 0} (kind : Kind B) (net : Net B) (s : State) (zones : ℕ → Zone B) (d : Item) (v : Voucher) (objection : Objection) : Type 0 where
+  pub asked : Zone B
+  pub asks : Asks kind net s zones d asked
+  pub stands : objection_of kind (zones v.zone) asked (pairing_of s v) ≡ Err objection
+
+abbrev pub item_rows : {B : Type 0} → Kind B → Net B → State → (zones : ℕ → Zone B) → Item →
+    Voucher → List Row
+item_rows kind net s zones d v =
+    row NotVoid ((v.void ≡ true) × (IsVoidItem kind net s zones d → ⊥))
+    ∷ row IsVoid ((v.void ≡ false) × IsVoidItem kind net s zones d)
+    ∷ row NoSuchZone ((v.void ≡ false) × (in_list s v.zone ≡ false))
+    ∷ row (Objected Partner) ((v.void ≡ false) × Against kind net s zones d v Partner)
+    ∷ row (Objected Place) ((v.void ≡ false) × Against kind net s zones d v Place)
+    ∷ row (Objected Bound) ((v.void ≡ false) × Against kind net s zones d v Bound)
     ∷ []
 
-abbrev pub discharge_rows : {B : Type 0} → World B → (lent : List B) → (bytes : List ℕ) → List Row
-discharge_rows w lent bytes =
-    row WrongStage (is_proving w.state.stage ≡ false)
-    ∷ (row WrongMemory (whole w lent ≡ false)
-    ∷ voucher_rows w.state bytes)
+abbrev pub discharge_rows : State → (sized : Bool) → (bytes : List ℕ) → List Row
+discharge_rows s sized bytes =
+    row WrongStage (is_proving s.stage ≡ false)
+    ∷ (row WrongMemory (sized ≡ false)
+    ∷ voucher_rows s bytes)
 
-abbrev pub discharge_table : {B : Type 0} → Kind B → Net B → World B → (lent : List B) → (bytes : List ℕ) → List Row
-discharge_table kind net w lent bytes = discharge_rows w lent bytes ++ item_rows kind net w (due_in w.state.stage) (voucher_of bytes)
+abbrev pub discharge_table : {B : Type 0} → Kind B → Net B → State → (sized : Bool) →
+    (zones : ℕ → Zone B) → (bytes : List ℕ) → List Row
+discharge_table kind net s sized zones bytes =
+    discharge_rows s sized bytes
+    ++ item_rows kind net s zones (due_in s.stage) (voucher_of bytes)

@@ -1,5 +1,7 @@
 #!/usr/bin/env python3
-"""Writes the files of this folder from their descriptions. It knows the format alone, and neither the rules nor the lines.
+"""Writes records, and the files of this folder from their descriptions. It knows the format alone,
+neither the rules nor the lines. A script of your own begins with `from make import *`: README.md here
+has one. The files of real nets are not written here.
 
 usage: python3 examples/make.py [FOLDER]    this folder, if none is named
 """
@@ -20,29 +22,34 @@ def packed(*fields):
 # ---- the net
 
 
-def slot(place=0, low=0, high=0, low_mark=0):
-    """An arc slot with both ends."""
-    return packed((place, 6), (low_mark, 1), (low, 15), (0, 1), (0, 1), (high, 15), (0, 1))
+def slot(place=0, low=0, high=0, low_mark=0, high_mark=0):
+    """An arc to or from a place, for ages from low to high; None for no upper limit. A marked end is strict."""
+    no_limit, mark, end = (1, 0, 0) if high is None else (0, high_mark, high)
+    return packed((place, 6), (low_mark, 1), (low, 15), (no_limit, 1), (mark, 1), (end, 15), (0, 1))
 
 
 def header(kind=1, places=2, transitions=1, spare=0):
+    """Kind 1 is plain, 2 marked."""
     return packed((kind, 2), (places - 1, 6), (transitions, 7), (spare, 17))
 
 
-def transition(inputs=1, outputs=1, spare=0, taken=slot(0, 1, 2), given=slot(1)):
-    """One slot on each side. All are of an age: 1 to 2 into the transition, 0 out of it."""
-    none = slot()
-    return packed((inputs, 3), (outputs, 3), (spare, 2)) + taken + 3 * none + given + 3 * none
+def transition(taken=(), given=(), inputs=None, outputs=None, spare=0):
+    """What it takes and what it gives: up to four slots each. Their numbers may be given otherwise."""
+    counts = len(taken) if inputs is None else inputs, len(given) if outputs is None else outputs
+    slots = [b"".join(side).ljust(20, b"\0") for side in (taken, given)]
+    return packed((counts[0], 3), (counts[1], 3), (spare, 2)) + slots[0] + slots[1]
 
 
 # ---- the docket
 
 
 def docket(initial=1, zones=3, spare=0):
+    """How many initial tokens and listed zones there are."""
     return packed((initial, 4), (zones, 6), (spare, 22))
 
 
 def token(place=0, age=0, spare=0):
+    """An initial token."""
     return packed((place, 6), (age, 15), (spare, 3))
 
 
@@ -50,6 +57,7 @@ NO_LIMIT = 1 << 18
 
 
 def bound(number, mark=0):
+    """A bound of a zone: it allows what is at most the number, less than it where it has a mark."""
     return (mark << 19) | (number % (1 << 19))
 
 
@@ -62,6 +70,7 @@ def zone(*places, tokens=None, spare=0, **bounds):
 
 
 def voucher(zone=0, *partners, void=0, spare=0):
+    """A listed zone, and for each of its tokens one of the item's; or that the item is void."""
     used = [*partners, *[0] * (8 - len(partners))]
     return packed((void, 1), (zone, 6), *((p, 4) for p in used), (spare, 9))
 
@@ -73,7 +82,11 @@ ZONES = (zone(1, 1), zone(1, 0), zone(0, 0))
 VOUCHERS = tuple(voucher(z, 1, 2) for z in (1, 1, 1, 2, 2, 2, 2, 3, 3, 3))
 
 
-def file(net=header(), moves=(transition(),), head=docket(), tokens=(token(),), target=TARGET, zones=ZONES, vouchers=VOUCHERS):
+TAKEN, GIVEN = (slot(0, 1, 2),), (slot(1),)
+MOVE = transition(TAKEN, GIVEN)
+
+
+def file(net=header(), moves=(MOVE,), head=docket(), tokens=(token(),), target=TARGET, zones=ZONES, vouchers=VOUCHERS):
     return b"".join([net, *moves, head, *tokens, target, *zones, *vouchers])
 
 
@@ -81,8 +94,8 @@ def first_voucher(it, **parts):
     return file(vouchers=(it, *VOUCHERS[1:]), **parts)
 
 
-def net_with(**parts):
-    return file(moves=(transition(**parts),))
+def net_with(taken=TAKEN, given=GIVEN, **parts):
+    return file(moves=(transition(taken, given, **parts),))
 
 
 def zone_1(it, **parts):
@@ -131,9 +144,9 @@ FILES = {
     "kind_3": file(net=header(kind=3)),
     "transitions_65": file(net=header(transitions=65)),
     "five_inputs": net_with(inputs=5),
-    "output_place_2": net_with(given=slot(2)),
-    "lower_mark_under_plain": net_with(taken=slot(0, 1, 2, low_mark=1)),
-    "range_3_to_2": net_with(taken=slot(0, 3, 2)),
+    "output_place_2": net_with(given=(slot(2),)),
+    "lower_mark_under_plain": net_with(taken=(slot(0, 1, 2, low_mark=1),)),
+    "range_3_to_2": net_with(taken=(slot(0, 3, 2),)),
     # the docket header and the initial tokens
     "net_alone": WHOLE[:45],
     "docket_spare": file(head=docket(spare=1)),
@@ -167,9 +180,9 @@ FILES = {
     "eleventh_voucher": file(vouchers=(*VOUCHERS, VOUCHERS[-1])),
     # two things are wrong
     "header_spare_and_kind_3": file(net=header(kind=3, spare=1)),
-    "output_place_2_and_range_3_to_2": net_with(taken=slot(0, 3, 2), given=slot(2)),
-    "lower_mark_and_range_3_to_2": net_with(taken=slot(0, 3, 2, low_mark=1)),
-    "range_3_to_2_and_docket_spare": file(moves=(transition(taken=slot(0, 3, 2)),), head=docket(spare=1)),
+    "output_place_2_and_range_3_to_2": net_with(taken=(slot(0, 3, 2),), given=(slot(2),)),
+    "lower_mark_and_range_3_to_2": net_with(taken=(slot(0, 3, 2, low_mark=1),)),
+    "range_3_to_2_and_docket_spare": file(moves=(transition((slot(0, 3, 2),), GIVEN),), head=docket(spare=1)),
     "token_spare_and_place_2": file(tokens=(token(2, spare=1),)),
     "nine_initial_tokens_one_in_place_2": file(head=docket(initial=9), tokens=(*8 * (token(),), token(2))),
     "nine_initial_tokens_and_target_short": (file(head=docket(initial=9), tokens=9 * (token(),)))[: SHORT_TARGET + 24],
@@ -197,4 +210,5 @@ def main():
             f.write(whole)
 
 
-main()
+if __name__ == "__main__":
+    main()

@@ -1,5 +1,6 @@
 pub mod Fields
 pub mod Rows
+pub mod Tables
 pub mod Walks
 pub mod Clean
 pub mod Stores

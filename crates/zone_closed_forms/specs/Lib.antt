@@ -1,0 +1,2 @@
+pub mod ClosedForms
+pub mod Laws

@@ -1,5 +1,6 @@
 pub mod Agrees
 pub mod Taken
+pub mod Numbers
 pub mod Pages
 pub mod Listed
 pub mod Written

@@ -1,22 +1,18 @@
 -- A call that was taken: no row of its table holds, and so it came in the stage that it asks for.
-use Rattle.std.proofs.Common.{◌≡◌, Bool, true, false, List, [], ◌∷◌, Ok, Err, Some, refl, subst, ⊎_elim}
+use Rattle.std.proofs.Common.{◌≡◌, ℕ, Bool, true, false, List, [], ◌∷◌, Ok, Some, is_some, refl, ap, ⊎_elim}
+use Rattle.std.proofs.lemmas.Bool.{false≢true}
 use Rattle.docket_dues.specs.declared.item.Item.{Item}
 use Rattle.nets.specs.Nets.{Net}
-use Rattle.docket_refusals.specs.declared.refusal.CallRefusal.{CallRefusal}
 use Rattle.docket_rules.specs.Logs.{Log, Opening, still_due}
 use Rattle.docket_rules.specs.Promise.{proving_stage, stage_said}
-use Rattle.docket_rules.specs.Tables.{Answer, Answers, Begins, Row, is_blank, is_listing, is_proving}
+use Rattle.docket_rules.specs.Tables.{Answer, Answers, Begins, Row, number_of, is_blank, is_listing, is_proving}
 
 -- ---- rows
-abbrev IsTaken : Answer → Type 0
-IsTaken (Ok u) = Unit {0}
-IsTaken (Err r) = ⊥
-
 abbrev pub taken : Answer
 taken = Ok tt
 
-pub taken_not_refused : (r : CallRefusal) → taken ≡ Err r → ⊥
-taken_not_refused r e = subst IsTaken e tt
+taken_not_refused : (number : ℕ) → number_of taken ≡ Some number → ⊥
+taken_not_refused number e = false≢true (ap is_some e)
 
 abbrev pub NoneHolds : List Row → Type 0
 NoneHolds [] = Unit {0}
@@ -25,12 +21,12 @@ NoneHolds (r ∷ rows) = (r.when → ⊥) × NoneHolds rows
 pub none_holds : (rows : List Row) → Answers rows taken → NoneHolds rows
 none_holds [] answers = tt
 none_holds (r ∷ rows) answers =
-    ⊎_elim (λ h. absurd (taken_not_refused r.refusal h.1)) (λ h. (h.0, none_holds rows h.1)) answers
+    ⊎_elim (λ h. absurd (taken_not_refused r.number h.1)) (λ h. (h.0, none_holds rows h.1)) answers
 
 pub none_begins : (rows : List Row) → Begins rows taken → NoneHolds rows
 none_begins [] begins = tt
 none_begins (r ∷ rows) begins =
-    ⊎_elim (λ h. absurd (taken_not_refused r.refusal h.1)) (λ h. (h.0, none_begins rows h.1)) begins
+    ⊎_elim (λ h. absurd (taken_not_refused r.number h.1)) (λ h. (h.0, none_begins rows h.1)) begins
 
 -- ---- stages
 pub proving_not_blank : (later : List Item) → is_blank (proving_stage later) ≡ false

@@ -1,9 +1,9 @@
--- When each call is refused, and by which refusal.
---     row       a refusal and the condition that brings it about
+-- When each call is refused, and by which number.
+--     row       the number of a refusal and the condition that brings it about
 --     table     the rows of a call in the order in which they are tested: the first that holds is the answer, and none is "taken"
 --     sized     the lent book and scratch page have the stated lengths
 --     zones     the zones by their numbers, the target's 0, as their pages hold them
-use Rattle.std.specs.Prelude.{◌≡◌, ℕ, Bool, true, false, ◌&&◌, ◌||◌, ◌⊎◌, List, [], ◌∷◌, ◌++◌, length, map, take, Ok, Err, Result, cond, ◌==◌, nat_le, nat_lt, slice_index}
+use Rattle.std.specs.Prelude.{◌≡◌, ℕ, Bool, true, false, ◌&&◌, ◌||◌, ◌⊎◌, List, [], ◌∷◌, ◌++◌, length, map, take, Ok, Err, Result, Some, None, Option, cond, ◌==◌, nat_le, nat_lt, slice_index}
 use Rattle.std.specs.List.{list_any, zip}
 use Rattle.zone_pages.specs.Objections.{objection_of}
 use Rattle.zone_pages.specs.declared.objections.Objection.{Objection}
@@ -14,13 +14,12 @@ use Rattle.docket_dues.specs.Dues.{target_item}
 use Rattle.docket_dues.specs.declared.item.Item.{Item}
 use Rattle.docket_records.specs.Vouchers.{unused_set, voucher_of, voucher_spare}
 use Rattle.docket_records.specs.ZoneRecords.{mark_under_plain, no_such_place, not_zero, too_many, wrong_length, zone_of}
-use Rattle.docket_records.specs.declared.fault.EntryRefusal.TheVariants.{WrongLength, NotZero, TooMany, NoSuchPlace, MarkUnderPlain, Inconsistent as NotConsistent}
 use Rattle.docket_records.specs.declared.token.InitialToken.{InitialToken}
 use Rattle.docket_records.specs.declared.voucher.Voucher.{Voucher}
 use Rattle.zone_markings.specs.Initial.{marking_of}
 use Rattle.nets.specs.Nets.{Net}
+use Rattle.docket_refusals.specs.CallRefusals.{call_refusal_number}
 use Rattle.docket_refusals.specs.declared.refusal.CallRefusal.{CallRefusal}
-use Rattle.docket_refusals.specs.declared.refusal.CallRefusal.TheVariants.{WrongStage, WrongMemory, FullList, Entry, Covered, NotVoid, VoidItem as IsVoid, NoSuchZone, Objected}
 use Rattle.docket_rules.specs.Worlds.{State, in_list, listed_count, listed_zones}
 use Rattle.docket_rules.specs.declared.stage.Stage.{Stage}
 use Rattle.docket_rules.specs.declared.stage.Stage.TheVariants.{Blank, Listing, Proving, Sealed}
@@ -28,23 +27,30 @@ use Rattle.zones.specs.Zones.{Zone, Inconsistent, Satisfies}
 
 -- ---- tables
 pub record Row : Type 1 where
-  pub refusal : CallRefusal
+  pub number : ℕ
   pub when : Type 0
 
-abbrev pub row : CallRefusal → Type 0 → Row
-row refusal when = record { refusal = refusal; when = when }
+abbrev pub row : ℕ → Type 0 → Row
+row number when = record { number = number; when = when }
 
 abbrev pub Answer : Type 0
 Answer = Result (Unit {0}) CallRefusal
 
+-- the number that an answer is refused by
+abbrev pub number_of : Answer → Option ℕ
+number_of (Ok u) = None
+number_of (Err r) = Some (call_refusal_number r)
+
 abbrev pub Answers : List Row → Answer → Type 0
 Answers [] answer = answer ≡ Ok tt
-Answers (r ∷ rows) answer = (r.when × (answer ≡ Err r.refusal)) ⊎ ((r.when → ⊥) × Answers rows answer)
+Answers (r ∷ rows) answer =
+    (r.when × (number_of answer ≡ Some r.number)) ⊎ ((r.when → ⊥) × Answers rows answer)
 
 -- one of these rows is the answer, or none of them holds
 abbrev pub Begins : List Row → Answer → Type 0
 Begins [] answer = Unit {0}
-Begins (r ∷ rows) answer = (r.when × (answer ≡ Err r.refusal)) ⊎ ((r.when → ⊥) × Begins rows answer)
+Begins (r ∷ rows) answer =
+    (r.when × (number_of answer ≡ Some r.number)) ⊎ ((r.when → ⊥) × Begins rows answer)
 
 -- ---- stages
 abbrev pub is_blank : Stage → Bool
@@ -81,12 +87,12 @@ due_in Sealed = target_item
 -- ---- the record of a zone
 abbrev pub record_rows : {B : Type 0} → Kind B → (net_places : ℕ) → (bytes : List ℕ) → List Row
 record_rows kind net_places bytes =
-    row (Entry WrongLength) (wrong_length bytes ≡ true)
-    ∷ row (Entry NotZero) (not_zero bytes ≡ true)
-    ∷ row (Entry TooMany) (too_many bytes ≡ true)
-    ∷ row (Entry NoSuchPlace) (no_such_place net_places bytes ≡ true)
-    ∷ row (Entry MarkUnderPlain) (mark_under_plain kind.marks bytes ≡ true)
-    ∷ row (Entry NotConsistent) (Inconsistent kind (zone_of kind bytes))
+    row 20 (wrong_length bytes ≡ true)
+    ∷ row 21 (not_zero bytes ≡ true)
+    ∷ row 22 (too_many bytes ≡ true)
+    ∷ row 23 (no_such_place net_places bytes ≡ true)
+    ∷ row 24 (mark_under_plain kind.marks bytes ≡ true)
+    ∷ row 25 (Inconsistent kind (zone_of kind bytes))
     ∷ []
 
 -- ---- open: a place and an age for each initial token, and the target's record
@@ -109,30 +115,30 @@ too_old age = nat_lt 32767 age
 
 abbrev pub initial_rows : (net_places : ℕ) → Given → List Row
 initial_rows net_places g =
-    row (Entry TooMany) (nat_lt 8 (length g.places) || list_any too_old g.ages ≡ true)
-    ∷ row (Entry NoSuchPlace) (list_any (nat_le net_places) g.places ≡ true)
+    row 22 (nat_lt 8 (length g.places) || list_any too_old g.ages ≡ true)
+    ∷ row 23 (list_any (nat_le net_places) g.places ≡ true)
     ∷ []
 
 abbrev pub open_table : {B : Type 0} → Kind B → Net B → State → (sized : Bool) → Given →
     (target : List ℕ) → List Row
 open_table kind net s sized g target =
-    row WrongStage (is_blank s.stage ≡ false)
-    ∷ row WrongMemory (sized && even g ≡ false)
+    row 40 (is_blank s.stage ≡ false)
+    ∷ row 41 (sized && even g ≡ false)
     ∷ initial_rows net.places g ++ record_rows kind net.places target
 
 -- ---- post: a listed zone's record
 abbrev pub post_table : {B : Type 0} → Kind B → Net B → State → (sized : Bool) →
     (zone : List ℕ) → List Row
 post_table kind net s sized zone =
-    row WrongStage (is_listing s.stage ≡ false)
-    ∷ row WrongMemory (sized ≡ false)
-    ∷ row FullList (listed_count s ≡ 63)
+    row 40 (is_listing s.stage ≡ false)
+    ∷ row 41 (sized ≡ false)
+    ∷ row 42 (listed_count s ≡ 63)
     ∷ record_rows kind net.places zone
-    ++ row Covered (Satisfies kind 1 (zone_of kind zone) (marking_of s.initial)) ∷ []
+    ++ row 26 (Satisfies kind 1 (zone_of kind zone) (marking_of s.initial)) ∷ []
 
 -- ---- close
 abbrev pub close_table : State → List Row
-close_table s = row WrongStage (is_listing s.stage ≡ false) ∷ []
+close_table s = row 40 (is_listing s.stage ≡ false) ∷ []
 
 -- ---- discharge: six bytes for the first item that is due
 -- how many partners a voucher uses: one for each token of its listed zone; one outside the list
@@ -145,8 +151,8 @@ pairing_of s v = take (slice_index s.counts v.zone) v.partners
 
 abbrev pub voucher_rows : State → (bytes : List ℕ) → List Row
 voucher_rows s bytes =
-    row (Entry WrongLength) (length bytes == 6 ≡ false)
-    ∷ row (Entry NotZero) (voucher_spare bytes || unused_set (voucher_of bytes) (partners_used s (voucher_of bytes)) ≡ true)
+    row 20 (length bytes == 6 ≡ false)
+    ∷ row 21 (voucher_spare bytes || unused_set (voucher_of bytes) (partners_used s (voucher_of bytes)) ≡ true)
     ∷ []
 
 abbrev pub IsVoidItem : {B : Type 0} → Kind B → Net B → State → (zones : ℕ → Zone B) → Item → Type 0
@@ -166,18 +172,18 @@ pub record Against {B : Type 0} (kind : Kind B) (net : Net B) (s : State) (zones
 abbrev pub item_rows : {B : Type 0} → Kind B → Net B → State → (zones : ℕ → Zone B) → Item →
     Voucher → List Row
 item_rows kind net s zones d v =
-    row NotVoid ((v.void ≡ true) × (IsVoidItem kind net s zones d → ⊥))
-    ∷ row IsVoid ((v.void ≡ false) × IsVoidItem kind net s zones d)
-    ∷ row NoSuchZone ((v.void ≡ false) × (in_list s v.zone ≡ false))
-    ∷ row (Objected Partner) ((v.void ≡ false) × Against kind net s zones d v Partner)
-    ∷ row (Objected Place) ((v.void ≡ false) × Against kind net s zones d v Place)
-    ∷ row (Objected Bound) ((v.void ≡ false) × Against kind net s zones d v Bound)
+    row 27 ((v.void ≡ true) × (IsVoidItem kind net s zones d → ⊥))
+    ∷ row 28 ((v.void ≡ false) × IsVoidItem kind net s zones d)
+    ∷ row 29 ((v.void ≡ false) × (in_list s v.zone ≡ false))
+    ∷ row 30 ((v.void ≡ false) × Against kind net s zones d v Partner)
+    ∷ row 31 ((v.void ≡ false) × Against kind net s zones d v Place)
+    ∷ row 32 ((v.void ≡ false) × Against kind net s zones d v Bound)
     ∷ []
 
 abbrev pub discharge_rows : State → (sized : Bool) → (bytes : List ℕ) → List Row
 discharge_rows s sized bytes =
-    row WrongStage (is_proving s.stage ≡ false)
-    ∷ (row WrongMemory (sized ≡ false)
+    row 40 (is_proving s.stage ≡ false)
+    ∷ (row 41 (sized ≡ false)
     ∷ voucher_rows s bytes)
 
 abbrev pub discharge_table : {B : Type 0} → Kind B → Net B → State → (sized : Bool) →

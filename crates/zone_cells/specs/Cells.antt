@@ -1,14 +1,27 @@
 -- Bounds of a zone in a row of cells, and what the operations on such cells leave in them.
---     draft     169 cells for a zone of up to 12 tokens that is worked on, (j,i) at 13 j + i
---     page      81 cells for a zone of up to 8 tokens, (j,i) at 9 j + i
--- Every operation is a function of all cells, so it says what every cell then holds. Assumes nothing.
+--     draft     cells for a zone of up to 12 tokens that is worked on, row by row
+--     page      cells for a zone of up to 8 tokens, row by row
+-- Every operation is a function of all cells, so it says what every cell then holds.
 use Rattle.std.specs.Prelude.{ℕ, zero, suc, ◌+◌, ◌*◌, cond, List, length, ◌==◌, slice_index, slice_index_or, slice_set}
 use Rattle.bounds.specs.Kinds.{Kind}
 use Rattle.bounds.specs.declared.range.Range.{Range}
 use Rattle.nets.specs.Nets.{Arc, no_arc}
 use Rattle.zone_walks.specs.Walks.{Matrix, lesser}
 
--- n steps, the first one with 0
+-- ---- lengths: of a draft and of a page, and of their rows
+abbrev pub draft_len : ℕ
+draft_len = 169
+
+abbrev pub draft_row : ℕ
+draft_row = 13
+
+abbrev pub page_len : ℕ
+page_len = 81
+
+abbrev pub page_row : ℕ
+page_row = 9
+
+-- ---- n steps, the first one with 0
 abbrev pub times : {X : Type 0} → ℕ → (ℕ → X → X) → X → X
 times zero step x = x
 times (suc n) step x = step n (times n step x)
@@ -18,14 +31,14 @@ abbrev pub bounds_in : {B : Type 0} → Kind B → ℕ → List B → Matrix B
 bounds_in kind width cells j i = slice_index_or cells (width * j + i) kind.no_limit
 
 abbrev pub in_draft : {B : Type 0} → Kind B → List B → Matrix B
-in_draft kind cells = bounds_in kind 13 cells
+in_draft kind cells = bounds_in kind draft_row cells
 
 abbrev pub in_page : {B : Type 0} → Kind B → List B → Matrix B
-in_page kind cells = bounds_in kind 9 cells
+in_page kind cells = bounds_in kind page_row cells
 
 -- ---- one cell of a draft
 abbrev pub put : {B : Type 0} → ℕ → ℕ → B → List B → List B
-put j i b cells = slice_set cells (13 * j + i) b
+put j i b cells = slice_set cells (draft_row * j + i) b
 
 abbrev pub lowered : {B : Type 0} → Kind B → ℕ → ℕ → B → List B → List B
 lowered kind j i b cells = put j i (lesser kind (in_draft kind cells j i) b) cells

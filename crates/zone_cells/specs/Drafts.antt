@@ -1,8 +1,8 @@
--- A zone that stands in a draft. Assumes nothing.
+-- A zone that stands in a draft.
 use Rattle.std.specs.Prelude.{◌≡◌, ℕ, ◌^◌, ◌≤◌, List, length}
 use Rattle.bounds.specs.Kinds.{Kind}
 use Rattle.zones.specs.Zones.{Zone, InNormalForm, SizedZone}
-use Rattle.zone_cells.specs.Cells.{in_draft}
+use Rattle.zone_cells.specs.Cells.{draft_len, in_draft}
 
 abbrev pub draft_zone : {B : Type 0} → Kind B → List ℕ → List B → Zone B
 draft_zone kind places cells = record { places = places; bound = in_draft kind cells }
@@ -21,7 +21,7 @@ largest_predecessor = 2 ^ 27
 
 -- a zone in normal form, as a page holds it, in whole cells
 pub record Workable {B : Type 0} (kind : Kind B) (places : List ℕ) (cells : List B) : Type 0 where
-  pub full : length cells ≡ 169
+  pub full : length cells ≡ draft_len
   pub few : length places ≤ most_tokens
   pub normal : InNormalForm kind (draft_zone kind places cells)
   pub small : SizedZone kind largest_listed (draft_zone kind places cells)

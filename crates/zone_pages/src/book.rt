@@ -1,53 +1,69 @@
 // The zone book: pages of 81 cells, (j,i) of a page at 9 j + i, with eight places each.
-ghost use Rattle.std.specs.Prelude.{◌≡◌, ◌≤◌};
-ghost use Rattle.zone_pages.specs.Books.{PageOpened, PartOf, page_points};
-ghost use Rattle.zone_cells.specs.Cells.{in_page, written};
+ghost use Rattle.std.specs.Prelude.{◌≡◌, ◌*◌, take, drop};
+ghost use Rattle.zone_cells.specs.Cells.{in_page, page_len, written};
+ghost use Rattle.zone_cells.specs.Drafts.{most_tokens};
+ghost use Rattle.zone_pages.specs.Books.{page_points};
 
 use bounds::Bound;
 use zone_drafts::draft::cell;
 use zone_drafts::fill::fill;
 use zones::MOST_TOKENS;
 
-const PAGE_CELLS: usize = 81;
+/// How many cells a page has: a row and a column for the clock and each of eight tokens.
+pub const PAGE_CELLS: usize = 81;
 
-const PAGE_PLACES: usize = MOST_TOKENS as usize;
+/// How many places a page has, one for each token.
+pub const PAGE_PLACES: usize = MOST_TOKENS as usize;
 
-// Cells and places are lent, each as one slice for the whole book.
+/// How many cells a book of 64 pages has.
+pub const BOOK_CELLS: usize = 64 * PAGE_CELLS;
+
+/// How many places a book of 64 pages has.
+pub const BOOK_PLACES: usize = 64 * PAGE_PLACES;
+
+const PAGE_ROW: usize = 9;
+
+/// The memory of all pages. Cells and places are lent, each as one slice for the whole book.
 #[derive(Clone, Copy)]
-pub struct Book<'a, 'b, B> {
+pub struct Book<'a, B> {
+    /// 81 for each page.
     pub cells: &'a [B],
-    pub places: &'b [u8],
+    /// Eight for each page.
+    pub places: &'a [u8],
 }
 
-// A zone of the book: its bounds, and the place of each of its tokens.
+/// A zone of the book.
 #[derive(Clone, Copy)]
-pub struct Page<'a, 'b, B> {
+pub struct Page<'a, B> {
+    /// Its bounds, (j,i) at 9 j + i.
     pub cells: &'a [B],
-    pub places: &'b [u8],
+    /// The place of each of its tokens.
+    pub places: &'a [u8],
 }
 
-// What belongs to the page with this number, of so many to a page.
-fn part<X>(items: &[X], size: usize, number: u8) -> Option<&[X]>
-    requires { size ≤ 81 }
-    ensures { PartOf items.now size number result }
+// So many items from a start on; what lies past the end is none.
+fn part<X>(items: &[X], start: usize, size: usize) -> &[X]
+    ensures { result.now ≡ take size (drop start items.now) }
 {
-    let start = size * usize::from(number);
-    items.get(start..start + size)
+    let later = items.get(start..).unwrap_or(&[]);
+    later.get(..size).unwrap_or(later)
 }
 
-impl<'a, 'b, B: Bound> Book<'a, 'b, B> {
-    // The page with this number, from 0, and its first places; none where the book ends before it.
-    pub fn page(&self, number: u8, tokens: u8) -> Option<Page<'a, 'b, B>>
-        ensures { PageOpened self.now.cells.now self.now.places.now number tokens result }
+impl<'a, B: Bound> Book<'a, B> {
+    /// The page with this number, from 0, and its first places. What lies past the book's end is none.
+    pub fn page(&self, number: u8, tokens: u8) -> Page<'a, B>
+        ensures cells { result.cells.now ≡ take page_len (drop (page_len * number) self.now.cells.now) }
+        ensures places { result.places.now ≡ take tokens (drop (most_tokens * number) self.now.places.now) }
     {
-        let cells = part(self.cells, PAGE_CELLS, number)?;
-        let all_places = part(self.places, PAGE_PLACES, number)?;
-        let places = all_places.get(..usize::from(tokens))?;
-        Some(Page { cells, places })
+        let number = usize::from(number);
+        Page {
+            cells: part(self.cells, PAGE_CELLS * number, PAGE_CELLS),
+            places: part(self.places, PAGE_PLACES * number, usize::from(tokens)),
+        }
     }
 }
 
-impl<'a, 'b, B: Bound> Page<'a, 'b, B> {
+impl<B: Bound> Page<'_, B> {
     pub fn bound(&self, j: u8, i: u8) -> B
         ensures { result ≡ in_page B.Bound.kind self.now.cells.now j i }
     {
@@ -58,7 +74,7 @@ impl<'a, 'b, B: Bound> Page<'a, 'b, B> {
     pub(crate) fn at(&self, j: usize, i: usize) -> B
         ensures { result ≡ in_page B.Bound.kind self.now.cells.now j i }
     {
-        cell(self.cells, j.saturating_mul(9).saturating_add(i))
+        cell(self.cells, j.saturating_mul(PAGE_ROW).saturating_add(i))
     }
 
     // Writes the zone into a draft; one of more than eight tokens is none of the book's, and is left.

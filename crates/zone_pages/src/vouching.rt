@@ -15,21 +15,23 @@ use zone_matchings::numbered;
 
 // The zone that a page is to vouch for, in a draft: 13 cells to a row, where a page has 9.
 #[derive(Clone, Copy)]
-pub struct Asked<'a, 'b, B> {
+pub struct Asked<'a, B> {
     pub cells: &'a [B],
-    pub places: &'b [u8],
+    pub places: &'a [u8],
 }
 
-// That a page's zone vouches for an item. The pairing has a token of the item for each token of the page. One lifetime for all
-// five parts would ask more of callers.
+/// That a page's zone vouches for the zone that an item asks for.
 #[derive(Clone, Copy)]
-pub struct Claim<'a, 'b, 'c, 'd, 'e, B> {
-    pub page: Page<'a, 'b, B>,
-    pub item: Asked<'c, 'd, B>,
-    pub pairing: &'e [u8],
+pub struct Claim<'a, B> {
+    /// The zone that vouches.
+    pub page: Page<'a, B>,
+    /// The zone that is vouched for.
+    pub asked: Asked<'a, B>,
+    /// A token of `asked` for each token of the page.
+    pub pairing: &'a [u8],
 }
 
-impl<'a, 'b, 'c, 'd, 'e, B: Bound> Claim<'a, 'b, 'c, 'd, 'e, B> {
+impl<B: Bound> Claim<'_, B> {
     // The partner of a point; the clock is its own.
     fn partner(&self, point: usize) -> u8
         ensures { result ≡ partner self.now.pairing.now point }
@@ -50,15 +52,15 @@ impl<'a, 'b, 'c, 'd, 'e, B: Bound> Claim<'a, 'b, 'c, 'd, 'e, B> {
 
     // Whether the partner of token k is no token of the item, or is taken.
     fn is_unsound(&self, k: usize) -> bool
-        ensures { result ≡ partner_unsound (length self.now.item.places.now) self.now.pairing.now k }
+        ensures { result ≡ partner_unsound (length self.now.asked.places.now) self.now.pairing.now k }
     {
         let partner = usize::from(byte(self.pairing, k));
-        !(1..=self.item.places.len()).contains(&partner) || self.is_taken(k)
+        !(1..=self.asked.places.len()).contains(&partner) || self.is_taken(k)
     }
 
     // By number here and below, since each test takes the number of a token or a point.
     fn lacks_partners(&self) -> bool
-        ensures { result ≡ partners_unsound self.now.page.places.now self.now.item.places.now self.now.pairing.now }
+        ensures { result ≡ partners_unsound self.now.page.places.now self.now.asked.places.now self.now.pairing.now }
     {
         self.pairing.len() != self.page.places.len()
             || (0..self.pairing.len()).any(|k| self.is_unsound(k))
@@ -66,38 +68,38 @@ impl<'a, 'b, 'c, 'd, 'e, B: Bound> Claim<'a, 'b, 'c, 'd, 'e, B> {
 
     // Not by `zip`, since the pairing and the page's places may differ in length.
     fn places_differ(&self) -> bool
-        ensures { result ≡ places_differ self.now.page.places.now self.now.item.places.now self.now.pairing.now }
+        ensures { result ≡ places_differ self.now.page.places.now self.now.asked.places.now self.now.pairing.now }
     {
         (0..self.pairing.len()).any(|k| {
-            place_of(self.item.places, byte(self.pairing, k)) != byte(self.page.places, k)
+            place_of(self.asked.places, byte(self.pairing, k)) != byte(self.page.places, k)
         })
     }
 
     // Whether the item's bound of the partners of two points is larger than the page's of the points.
     fn exceeds(&self, j: usize, i: usize) -> bool
-        ensures { result ≡ exceeds B.Bound.kind (in_page B.Bound.kind self.now.page.cells.now) (in_draft B.Bound.kind self.now.item.cells.now) self.now.pairing.now j i }
+        ensures { result ≡ exceeds B.Bound.kind (in_page B.Bound.kind self.now.page.cells.now) (in_draft B.Bound.kind self.now.asked.cells.now) self.now.pairing.now j i }
     {
-        let of_item = bound_at(self.item.cells, self.partner(j), self.partner(i));
+        let of_item = bound_at(self.asked.cells, self.partner(j), self.partner(i));
         let of_page = self.page.at(j, i);
         j != i && !of_item.at_most(of_page)
     }
 
     fn row_exceeds(&self, j: usize) -> bool
-        ensures { result ≡ exceeds_in_row B.Bound.kind (in_page B.Bound.kind self.now.page.cells.now) (in_draft B.Bound.kind self.now.item.cells.now) self.now.pairing.now j }
+        ensures { result ≡ exceeds_in_row B.Bound.kind (in_page B.Bound.kind self.now.page.cells.now) (in_draft B.Bound.kind self.now.asked.cells.now) self.now.pairing.now j }
     {
         (0..self.pairing.len() + 1).any(|i| self.exceeds(j, i))
     }
 
     fn some_exceeds(&self) -> bool
-        ensures { result ≡ bound_exceeds B.Bound.kind (in_page B.Bound.kind self.now.page.cells.now) (in_draft B.Bound.kind self.now.item.cells.now) self.now.pairing.now }
+        ensures { result ≡ bound_exceeds B.Bound.kind (in_page B.Bound.kind self.now.page.cells.now) (in_draft B.Bound.kind self.now.asked.cells.now) self.now.pairing.now }
     {
         (0..self.pairing.len() + 1).any(|j| self.row_exceeds(j))
     }
 
     // What stands against the claim, the lowest number first.
     pub fn check(&self) -> Result<(), Objection>
-        ensures is { result ≡ objection_of B.Bound.kind (page_zone B.Bound.kind self.now.page.places.now self.now.page.cells.now) (draft_zone B.Bound.kind self.now.item.places.now self.now.item.cells.now) self.now.pairing.now }
-        ensures means { Means B.Bound.kind (page_zone B.Bound.kind self.now.page.places.now self.now.page.cells.now) (draft_zone B.Bound.kind self.now.item.places.now self.now.item.cells.now) self.now.pairing.now result }
+        ensures is { result ≡ objection_of B.Bound.kind (page_zone B.Bound.kind self.now.page.places.now self.now.page.cells.now) (draft_zone B.Bound.kind self.now.asked.places.now self.now.asked.cells.now) self.now.pairing.now }
+        ensures means { Means B.Bound.kind (page_zone B.Bound.kind self.now.page.places.now self.now.page.cells.now) (draft_zone B.Bound.kind self.now.asked.places.now self.now.asked.cells.now) self.now.pairing.now result }
     {
         if self.lacks_partners() {
             Err(Objection::Partner)

@@ -21,13 +21,13 @@ fn objected(
     pairing: &[u8],
 ) -> Option<u8> {
     let page = Page { cells, places };
-    let item = Asked {
+    let asked = Asked {
         cells: item,
         places: &[1, 0],
     };
     let claim = Claim {
         page,
-        item,
+        asked,
         pairing,
     };
     claim.check().err().map(Objection::number)
@@ -66,11 +66,19 @@ fn a_book_hands_on_its_pages(rt: HostRuntime) -> Result<(), Fail> {
         cells: &cells,
         places: &places,
     };
-    let page = book.page(63, 8).ok_or("no last page")?;
+    let page = book.page(63, 8);
     assert_eq!(rt; page.places, [63; 8].as_slice());
     assert_eq!(rt; page.cells.len(), 81);
     assert_eq!(rt; page.bound(1, 0), number(63));
-    assert!(rt; book.page(64, 0).is_none());
-    assert!(rt; book.page(0, 9).is_none());
+    // past the end there is no cell and no place
+    let past = book.page(64, 8);
+    assert_eq!(rt; past.cells.len(), 0);
+    assert_eq!(rt; past.places.len(), 0);
+    assert_eq!(rt; past.bound(0, 0), PlainBound::no_limit());
+    // places are handed on as asked for, also those of the next page
+    assert_eq!(rt;
+        book.page(0, 9).places,
+        [0, 0, 0, 0, 0, 0, 0, 0, 1].as_slice()
+    );
     Ok(())
 }

@@ -11,5 +11,5 @@ pub returns-else-self : goal.returns-else-self
 returns-else-self g c =
     let claim = c.args.self.now in
     let n = length claim.pairing.now in
-    any_from_yields_List (partner_unsound (length claim.item.places.now) claim.pairing.now) _ _ c.any.result c.any.ensures.ran (YieldsList-from_range 0 n n refl (omega arith)) (λ x b q k. search (rules, tests))
-    ∙ sym (ap (λ t. t || list_any (partner_unsound (length claim.item.places.now) claim.pairing.now) (range_with_len 0 n)) (not_from_true _ (eq-eqb n (length claim.page.places.now) c.if-self.false)))
+    any_from_yields_List (partner_unsound (length claim.asked.places.now) claim.pairing.now) _ _ c.any.result c.any.ensures.ran (YieldsList-from_range 0 n n refl (omega arith)) (λ x b q k. search (rules, tests))
+    ∙ sym (ap (λ t. t || list_any (partner_unsound (length claim.asked.places.now) claim.pairing.now) (range_with_len 0 n)) (not_from_true _ (eq-eqb n (length claim.page.places.now) c.if-self.false)))

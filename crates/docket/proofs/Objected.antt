@@ -7,8 +7,8 @@ use Rattle.zone_pages.specs.Objections.{objection_of}
 use Rattle.zone_pages.specs.declared.objections.Objection.{Objection}
 use Rattle.zone_pages.specs.declared.objections.Objection.TheVariants.{Partner, Place, Bound}
 use Rattle.bounds.specs.Kinds.{Kind}
-use Rattle.zone_cells.specs.Objections.{bound_exceeds, partners_unsound, places_differ}
-use Rattle.zone_cells.proofs.Objections.{none_lacks, vouches_from}
+use Rattle.zone_pages.specs.Comparison.{bound_exceeds, partners_unsound, places_differ}
+use Rattle.zone_pages.proofs.Comparison.{none_lacks, vouches_from}
 use Rattle.docket_dues.specs.Answered.{SameZone}
 use Rattle.docket_dues.proofs.Same.{vouches_same}
 use Rattle.zone_walks.specs.Walks.{Matrix}

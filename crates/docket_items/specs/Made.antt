@@ -3,8 +3,7 @@
 use Rattle.std.specs.Prelude.{◌≡◌, ℕ, ◌≤◌, List, length, Some, None, Option}
 use Rattle.arrayvec.specs.ArrayVec.{ArrayVec}
 use Rattle.bounds.specs.Kinds.{Kind}
-use Rattle.zone_cells.specs.Drafts.{draft_zone, largest_listed, most_tokens}
-use Rattle.zone_cells.specs.Objections.{page_zone}
+use Rattle.zone_cells.specs.Drafts.{draft_zone, largest_listed, most_tokens, page_zone}
 use Rattle.nets.specs.Nets.{Net}
 use Rattle.zones.specs.Zones.{Zone, InNormalForm, SizedZone}
 use Rattle.docket_dues.specs.Answered.{SameZone, ItemZone, VoidItem, places_of_all, zone_named}

@@ -6,8 +6,7 @@ use Rattle.std.proofs.lemmas.List.FromFn.{get_or-map-range_with_len, length-map-
 use Rattle.std.proofs.Math.Seq.{drop-append_seam, take-append_seam, take-length}
 use Rattle.bounds.specs.Kinds.{Kind}
 use Rattle.zone_cells.specs.Cells.{in_page}
-use Rattle.zone_cells.specs.Drafts.{largest_listed}
-use Rattle.zone_cells.specs.Objections.{page_zone}
+use Rattle.zone_cells.specs.Drafts.{largest_listed, page_zone}
 use Rattle.docket_dues.specs.Answered.{SameZone}
 use Rattle.docket_dues.proofs.Same.{normal_same, sized_same}
 use Rattle.zone_walks.specs.Walks.{counted}

@@ -3,7 +3,7 @@ use Rattle.std.proofs.Common.{◌≡◌, ℕ, ◌*◌, ◌<◌, ◌≤◌, true,
 use Rattle.std.proofs.lemmas.Bool.{and_parts, eqb-true}
 use Rattle.bounds.specs.Kinds.{Kind}
 use Rattle.zone_cells.specs.Sizes.{draft_cells}
-use Rattle.zone_cells.specs.Objections.{page_zone}
+use Rattle.zone_cells.specs.Drafts.{page_zone}
 use Rattle.zones.specs.Zones.{Zone}
 use Rattle.docket_rules.specs.Calls.{PageWritten, cells_of, page_places_of}
 use Rattle.docket_rules.specs.Worlds.{World, book_cells, book_places, book_whole, page_of, whole, with_scratch}

@@ -7,7 +7,7 @@
 use Rattle.std.specs.Prelude.{ℕ, ◌*◌, ◌-◌, Bool, ◌&&◌, List, [], map, length, take, drop, ◌==◌, nat_le, slice_index}
 use Rattle.std.specs.List.{range_with_len}
 use Rattle.bounds.specs.Kinds.{Kind}
-use Rattle.zone_cells.specs.Objections.{page_zone}
+use Rattle.zone_cells.specs.Drafts.{page_zone}
 use Rattle.zone_cells.specs.Sizes.{draft_cells, page_cells, page_places}
 use Rattle.docket_records.specs.declared.token.InitialToken.{InitialToken}
 use Rattle.docket_rules.specs.declared.stage.Stage.{Stage}

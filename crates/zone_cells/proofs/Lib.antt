@@ -6,4 +6,3 @@ pub mod Sifted
 pub mod Steps
 pub mod Composed
 pub mod Loading
-pub mod Objections

@@ -7,19 +7,7 @@ use Rattle.bounds.specs.Kinds.{Kind}
 use Rattle.bounds.specs.declared.range.Range.{Range}
 use Rattle.nets.specs.Nets.{Arc, no_arc}
 use Rattle.zone_walks.specs.Walks.{Matrix, lesser}
-
--- ---- lengths: of a draft and of a page, and of their rows
-abbrev pub draft_len : ℕ
-draft_len = 169
-
-abbrev pub draft_row : ℕ
-draft_row = 13
-
-abbrev pub page_len : ℕ
-page_len = 81
-
-abbrev pub page_row : ℕ
-page_row = 9
+use Rattle.zone_cells.specs.Sizes.{draft_row, page_row}
 
 -- ---- n steps, the first one with 0
 abbrev pub times : {X : Type 0} → ℕ → (ℕ → X → X) → X → X

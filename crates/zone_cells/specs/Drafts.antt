@@ -1,11 +1,15 @@
--- A zone that stands in a draft.
+-- A zone that stands in a draft or in a page.
 use Rattle.std.specs.Prelude.{◌≡◌, ℕ, ◌^◌, ◌≤◌, List, length}
 use Rattle.bounds.specs.Kinds.{Kind}
 use Rattle.zones.specs.Zones.{Zone, InNormalForm, SizedZone}
-use Rattle.zone_cells.specs.Cells.{draft_len, in_draft}
+use Rattle.zone_cells.specs.Cells.{in_draft, in_page}
+use Rattle.zone_cells.specs.Sizes.{draft_cells}
 
 abbrev pub draft_zone : {B : Type 0} → Kind B → List ℕ → List B → Zone B
 draft_zone kind places cells = record { places = places; bound = in_draft kind cells }
+
+abbrev pub page_zone : {B : Type 0} → Kind B → List ℕ → List B → Zone B
+page_zone kind places cells = record { places = places; bound = in_page kind cells }
 
 -- a listed zone has at most so many tokens
 abbrev pub most_tokens : ℕ
@@ -21,7 +25,7 @@ largest_predecessor = 2 ^ 27
 
 -- a zone in normal form, as a page holds it, in whole cells
 pub record Workable {B : Type 0} (kind : Kind B) (places : List ℕ) (cells : List B) : Type 0 where
-  pub full : length cells ≡ draft_len
+  pub full : length cells ≡ draft_cells
   pub few : length places ≤ most_tokens
   pub normal : InNormalForm kind (draft_zone kind places cells)
   pub small : SizedZone kind largest_listed (draft_zone kind places cells)

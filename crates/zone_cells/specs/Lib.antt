@@ -4,4 +4,3 @@ pub mod Settling
 pub mod Sifted
 pub mod Drafts
 pub mod Loading
-pub mod Objections

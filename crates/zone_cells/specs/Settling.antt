@@ -1,15 +1,15 @@
 -- What closing a draft through some of its points answers and leaves.
--- Assumes nothing.
 use Rattle.std.specs.Prelude.{◌≡◌, ℕ, ◌<◌, ◌≤◌, Bool, true, false, ◌⊎◌, List, length}
 use Rattle.bounds.specs.Kinds.{Kind}
 use Rattle.zone_walks.specs.NormalForms.{most_points, largest_entry}
 use Rattle.zone_walks.specs.Walks.{Matrix, Inside, Negative, NormalForm, Settled, Sized, Still}
 use Rattle.zones.specs.Predecessors.{among}
 use Rattle.zone_cells.specs.Cells.{in_draft}
+use Rattle.zone_cells.specs.Sizes.{draft_cells}
 
 -- whole cells of small bounds, in which every point is settled or among the pivots
 pub record Ready {B : Type 0} (kind : Kind B) (points : ℕ) (pivots : List ℕ) (cells : List B) : Type 0 where
-  pub full : length cells ≡ 169
+  pub full : length cells ≡ draft_cells
   pub few : points ≤ most_points
   pub rounds : length pivots ≤ most_points
   pub inside : Inside points pivots

@@ -1,2 +1,3 @@
 mod Steps
+pub mod Comparison
 pub mod Means

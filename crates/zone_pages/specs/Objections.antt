@@ -1,8 +1,7 @@
--- What stands against a page's vouching for an item, the lowest number first, and what it means that nothing does.
--- Assumes nothing.
+-- What stands against a page's vouching for a zone, the lowest number first, and what it means that nothing does.
 use Rattle.std.specs.Prelude.{◌≡◌, ℕ, cond, List, Ok, Err, Result, codes}
 use Rattle.bounds.specs.Kinds.{Kind}
-use Rattle.zone_cells.specs.Objections.{partners_unsound, places_differ, bound_exceeds}
+use Rattle.zone_pages.specs.Comparison.{partners_unsound, places_differ, bound_exceeds}
 use Rattle.zones.specs.Vouching.{Vouches}
 use Rattle.zones.specs.Zones.{Zone}
 use Rattle.zone_pages.specs.declared.objections.Objection.{Objection}
@@ -18,13 +17,13 @@ objection_text Partner = codes "a partner is no token of the item, or is used tw
 objection_text Place = codes "a token stands in another place than its partner"
 objection_text Bound = codes "a bound of the item is larger than the zone's"
 
-abbrev pub objection_of : {B : Type 0} → Kind B → (page item : Zone B) → List ℕ → Result (Unit {0}) Objection
-objection_of kind page item pairing =
-    cond (partners_unsound page.places item.places pairing) (Err Partner)
-    (cond (places_differ page.places item.places pairing) (Err Place)
-    (cond (bound_exceeds kind page.bound item.bound pairing) (Err Bound) (Ok tt)))
+abbrev pub objection_of : {B : Type 0} → Kind B → (page asked : Zone B) → List ℕ → Result (Unit {0}) Objection
+objection_of kind page asked pairing =
+    cond (partners_unsound page.places asked.places pairing) (Err Partner)
+    (cond (places_differ page.places asked.places pairing) (Err Place)
+    (cond (bound_exceeds kind page.bound asked.bound pairing) (Err Bound) (Ok tt)))
 
--- nothing stands against it exactly where the page's zone vouches for the item's
-pub record Means {B : Type 0} (kind : Kind B) (page item : Zone B) (pairing : List ℕ) (answer : Result (Unit {0}) Objection) : Type 0 where
-  pub vouches : answer ≡ Ok tt → Vouches kind page item pairing
-  pub nothing : Vouches kind page item pairing → answer ≡ Ok tt
+-- nothing stands against it exactly where the page's zone vouches for the zone asked for
+pub record Means {B : Type 0} (kind : Kind B) (page asked : Zone B) (pairing : List ℕ) (answer : Result (Unit {0}) Objection) : Type 0 where
+  pub vouches : answer ≡ Ok tt → Vouches kind page asked pairing
+  pub nothing : Vouches kind page asked pairing → answer ≡ Ok tt

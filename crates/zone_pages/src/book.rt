@@ -1,7 +1,7 @@
 // The zone book: pages of 81 cells, (j,i) of a page at 9 j + i, with eight places each.
 ghost use Rattle.std.specs.Prelude.{◌≡◌, ◌*◌, take, drop};
-ghost use Rattle.zone_cells.specs.Cells.{in_page, page_len, written};
-ghost use Rattle.zone_cells.specs.Drafts.{most_tokens};
+ghost use Rattle.zone_cells.specs.Cells.{in_page, written};
+ghost use Rattle.zone_cells.specs.Sizes.{page_cells, page_places};
 ghost use Rattle.zone_pages.specs.Books.{page_points};
 
 use bounds::Bound;
@@ -14,12 +14,6 @@ pub const PAGE_CELLS: usize = 81;
 
 /// How many places a page has, one for each token.
 pub const PAGE_PLACES: usize = MOST_TOKENS as usize;
-
-/// How many cells a book of 64 pages has.
-pub const BOOK_CELLS: usize = 64 * PAGE_CELLS;
-
-/// How many places a book of 64 pages has.
-pub const BOOK_PLACES: usize = 64 * PAGE_PLACES;
 
 const PAGE_ROW: usize = 9;
 
@@ -52,8 +46,8 @@ fn part<X>(items: &[X], start: usize, size: usize) -> &[X]
 impl<'a, B: Bound> Book<'a, B> {
     /// The page with this number, from 0, and its first places. What lies past the book's end is none.
     pub fn page(&self, number: u8, tokens: u8) -> Page<'a, B>
-        ensures cells { result.cells.now ≡ take page_len (drop (page_len * number) self.now.cells.now) }
-        ensures places { result.places.now ≡ take tokens (drop (most_tokens * number) self.now.places.now) }
+        ensures cells { result.cells.now ≡ take page_cells (drop (page_cells * number) self.now.cells.now) }
+        ensures places { result.places.now ≡ take tokens (drop (page_places * number) self.now.places.now) }
     {
         let number = usize::from(number);
         Page {

@@ -6,7 +6,7 @@ pub mod grids;
 pub mod objections;
 pub mod vouching;
 
-pub use book::{BOOK_CELLS, BOOK_PLACES, Book, Page};
+pub use book::{Book, Page};
 pub use grids::wipe;
 pub use objections::Objection;
 pub use vouching::{Asked, Claim};

@@ -1,8 +1,8 @@
 // Whether a page's zone vouches for a zone in a draft, and what stands against it.
 ghost use Rattle.zone_pages.specs.Objections.{objection_of, Means};
-ghost use Rattle.zone_cells.specs.Objections.{partner_taken, partner_unsound, partners_unsound, places_differ, exceeds, exceeds_in_row, bound_exceeds, page_zone};
+ghost use Rattle.zone_pages.specs.Comparison.{partner_taken, partner_unsound, partners_unsound, places_differ, exceeds, exceeds_in_row, bound_exceeds};
 ghost use Rattle.zone_cells.specs.Cells.{in_draft, in_page};
-ghost use Rattle.zone_cells.specs.Drafts.{draft_zone};
+ghost use Rattle.zone_cells.specs.Drafts.{draft_zone, page_zone};
 ghost use Rattle.zones.specs.Vouching.{partner};
 ghost use Rattle.std.specs.Prelude.{◌≡◌, length};
 

@@ -4,7 +4,7 @@ use Rattle.std.proofs.lemmas.Bool.{eq-eqb, not_from_true}
 use Rattle.std.proofs.lemmas.Iterator.{YieldsList-from_range}
 use Rattle.std.proofs.lemmas.Iterator.Search.{any_from_yields_List}
 use Rattle.std.specs.List.{list_any, range_with_len}
-use Rattle.zone_cells.specs.Objections.{partner_unsound}
+use Rattle.zone_pages.specs.Comparison.{partner_unsound}
 use Rattle.zone_pages.proofs.vouching.Claim.lacks_partners.Goals as goal
 
 pub returns-else-self : goal.returns-else-self

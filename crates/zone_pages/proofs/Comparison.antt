@@ -1,4 +1,4 @@
--- A pairing that lacks nothing is one by which the page's zone vouches for the item's, and the other way round. Assumes nothing.
+-- A pairing that lacks nothing is one by which the page's zone vouches for the zone asked for, and the other way round.
 use Rattle.std.proofs.Common.{◌≡◌, ℕ, suc, ◌+◌, ◌<◌, Bool, true, false, not, eqb, ltb, List, [], ◌∷◌, map, length, get_or, take, sym, refl, ap, ◌∙◌, subst, ⊎_elim, arith}
 use Rattle.std.proofs.lemmas.List.Folds.{list_any_at, list_any_none}
 use Rattle.std.proofs.lemmas.List.FromFn.{length-range_with_len, get_or-range_with_len}
@@ -12,7 +12,7 @@ use Rattle.zones.specs.Vouching.{Vouches, Partner, Distinct, partner}
 use Rattle.zones.specs.Zones.{Zone}
 use Rattle.zone_walks.specs.Walks.{Matrix}
 use Rattle.zones.proofs.Chosen.{every_getD, distinct_apart, getD_among}
-use Rattle.zone_cells.specs.Objections.{no_partner, partner_taken, partner_unsound, partners_unsound, place_differs, places_differ, exceeds, exceeds_in_row, bound_exceeds}
+use Rattle.zone_pages.specs.Comparison.{no_partner, partner_taken, partner_unsound, partners_unsound, place_differs, places_differ, exceeds, exceeds_in_row, bound_exceeds}
 
 -- ---- a search among the numbers below n
 pub none_at : (n i : ℕ) (p : ℕ → Bool) → i < n → list_any p (range_with_len 0 n) ≡ false → p i ≡ false
@@ -78,59 +78,59 @@ module _ (count : ℕ) (pairing : List ℕ) where
       distinct_apart pairing distinct i k (omega (arith, early, l)) l (λ e. omega (arith, early, e)) (sym (same ∙ get_or-take k pairing i 0 early)))))
 
 -- ---- places
-module _ (page_places item_places pairing : List ℕ) where
-  same_places : length pairing ≡ length page_places → places_differ page_places item_places pairing ≡ false → map (λ p. numbered item_places p 0) pairing ≡ page_places
+module _ (page_places asked_places pairing : List ℕ) where
+  same_places : length pairing ≡ length page_places → places_differ page_places asked_places pairing ≡ false → map (λ p. numbered asked_places p 0) pairing ≡ page_places
   same_places count none =
-      ext_get_or 0 (map (λ p. numbered item_places p 0) pairing) page_places (length-map pairing (λ p. numbered item_places p 0) ∙ count) (λ i l.
-      let h : i < length pairing = subst (λ n. i < n) (length-map pairing (λ p. numbered item_places p 0)) l in
-      get_or-map (λ p. numbered item_places p 0) pairing i 0 0 h
-      ∙ eqb-true (numbered item_places (get_or pairing i 0) 0) (get_or page_places i 0) (not-false _ (none_at (length pairing) i (place_differs page_places item_places pairing) h none)))
+      ext_get_or 0 (map (λ p. numbered asked_places p 0) pairing) page_places (length-map pairing (λ p. numbered asked_places p 0) ∙ count) (λ i l.
+      let h : i < length pairing = subst (λ n. i < n) (length-map pairing (λ p. numbered asked_places p 0)) l in
+      get_or-map (λ p. numbered asked_places p 0) pairing i 0 0 h
+      ∙ eqb-true (numbered asked_places (get_or pairing i 0) 0) (get_or page_places i 0) (not-false _ (none_at (length pairing) i (place_differs page_places asked_places pairing) h none)))
 
-  none_differ : map (λ p. numbered item_places p 0) pairing ≡ page_places → places_differ page_places item_places pairing ≡ false
+  none_differ : map (λ p. numbered asked_places p 0) pairing ≡ page_places → places_differ page_places asked_places pairing ≡ false
   none_differ same =
-      none_below (length pairing) (place_differs page_places item_places pairing) (λ k l.
-      not_from_true _ (eq-eqb (numbered item_places (get_or pairing k 0) 0) (get_or page_places k 0) (sym (get_or-map (λ p. numbered item_places p 0) pairing k 0 0 l) ∙ ap (λ ps. get_or ps k 0) same)))
+      none_below (length pairing) (place_differs page_places asked_places pairing) (λ k l.
+      not_from_true _ (eq-eqb (numbered asked_places (get_or pairing k 0) 0) (get_or page_places k 0) (sym (get_or-map (λ p. numbered asked_places p 0) pairing k 0 0 l) ∙ ap (λ ps. get_or ps k 0) same)))
 
 -- ---- bounds
-module _ {B : Type 0} (kind : Kind B) (page item : Matrix B) (pairing : List ℕ) where
-  within : bound_exceeds kind page item pairing ≡ false → (j i : ℕ) → j < length pairing + 1 → i < length pairing + 1 → (j ≡ i → ⊥) → kind.at_most (item (partner pairing j) (partner pairing i)) (page j i) ≡ true
+module _ {B : Type 0} (kind : Kind B) (page asked : Matrix B) (pairing : List ℕ) where
+  within : bound_exceeds kind page asked pairing ≡ false → (j i : ℕ) → j < length pairing + 1 → i < length pairing + 1 → (j ≡ i → ⊥) → kind.at_most (asked (partner pairing j) (partner pairing i)) (page j i) ≡ true
   within none j i p q apart =
-      let row = none_at ((length pairing + 1)) j (exceeds_in_row kind page item pairing) p none in
-      let here = none_at ((length pairing + 1)) i (exceeds kind page item pairing j) q row in
+      let row = none_at ((length pairing + 1)) j (exceeds_in_row kind page asked pairing) p none in
+      let here = none_at ((length pairing + 1)) i (exceeds kind page asked pairing j) q row in
       ⊎_elim
       (λ e. absurd (both_ways (eqb j i) (ne_eqb j i apart) (not-false (eqb j i) e)))
       (λ e. not-false _ e)
       (and_cases (not (eqb j i)) _ here)
 
-  none_exceeds : ((j i : ℕ) → j < length pairing + 1 → i < length pairing + 1 → (j ≡ i → ⊥) → kind.at_most (item (partner pairing j) (partner pairing i)) (page j i) ≡ true) → bound_exceeds kind page item pairing ≡ false
+  none_exceeds : ((j i : ℕ) → j < length pairing + 1 → i < length pairing + 1 → (j ≡ i → ⊥) → kind.at_most (asked (partner pairing j) (partner pairing i)) (page j i) ≡ true) → bound_exceeds kind page asked pairing ≡ false
   none_exceeds h =
-      none_below ((length pairing + 1)) (exceeds_in_row kind page item pairing) (λ j p.
-      none_below ((length pairing + 1)) (exceeds kind page item pairing j) (λ i q.
+      none_below ((length pairing + 1)) (exceeds_in_row kind page asked pairing) (λ j p.
+      none_below ((length pairing + 1)) (exceeds kind page asked pairing j) (λ i q.
       ⊎_elim
       (λ same. and_left (not (eqb j i)) _ (not_from_true (eqb j i) (eq-eqb j i same)))
       (λ apart. and_right (not (eqb j i)) _ (not_from_true _ (h j i p q apart)))
       (cases_eq j i)))
 
 -- ---- the whole comparison
-module _ {B : Type 0} (kind : Kind B) (page item : Zone B) (pairing : List ℕ) where
-  pub vouches_from : partners_unsound page.places item.places pairing ≡ false → places_differ page.places item.places pairing ≡ false → bound_exceeds kind page.bound item.bound pairing ≡ false → Vouches kind page item pairing
+module _ {B : Type 0} (kind : Kind B) (page asked : Zone B) (pairing : List ℕ) where
+  pub vouches_from : partners_unsound page.places asked.places pairing ≡ false → places_differ page.places asked.places pairing ≡ false → bound_exceeds kind page.bound asked.bound pairing ≡ false → Vouches kind page asked pairing
   vouches_from partners places bounds =
-      let parts = or_parts (not (eqb (length pairing) (length page.places))) (list_any (partner_unsound (length item.places) pairing) (range_with_len 0 (length pairing))) partners in
+      let parts = or_parts (not (eqb (length pairing) (length page.places))) (list_any (partner_unsound (length asked.places) pairing) (range_with_len 0 (length pairing))) partners in
       let count : length pairing ≡ length page.places = eqb-true (length pairing) (length page.places) (not-false _ parts.0) in
       record {
         count = count;
-        partners = every_partner (length item.places) pairing parts.1;
-        distinct = distinct_partners (length item.places) pairing parts.1;
-        places = same_places page.places item.places pairing count places;
-        bounds = λ j i p q apart. within kind page.bound item.bound pairing bounds j i (omega (arith, count)) (omega (arith, count)) apart;
+        partners = every_partner (length asked.places) pairing parts.1;
+        distinct = distinct_partners (length asked.places) pairing parts.1;
+        places = same_places page.places asked.places pairing count places;
+        bounds = λ j i p q apart. within kind page.bound asked.bound pairing bounds j i (omega (arith, count)) (omega (arith, count)) apart;
       }
 
-  pub none_lacks : Vouches kind page item pairing → (partners_unsound page.places item.places pairing ≡ false) × (places_differ page.places item.places pairing ≡ false) × (bound_exceeds kind page.bound item.bound pairing ≡ false)
+  pub none_lacks : Vouches kind page asked pairing → (partners_unsound page.places asked.places pairing ≡ false) × (places_differ page.places asked.places pairing ≡ false) × (bound_exceeds kind page.bound asked.bound pairing ≡ false)
   none_lacks v =
       let count : length pairing ≡ length page.places = v.count in (
-        or_from (not (eqb (length pairing) (length page.places))) (list_any (partner_unsound (length item.places) pairing) (range_with_len 0 (length pairing)))
+        or_from (not (eqb (length pairing) (length page.places))) (list_any (partner_unsound (length asked.places) pairing) (range_with_len 0 (length pairing)))
             (not_from_true _ (eq-eqb (length pairing) (length page.places) count))
-            (none_unsound (length item.places) pairing v.partners v.distinct),
-        none_differ page.places item.places pairing v.places,
-        none_exceeds kind page.bound item.bound pairing (λ j i p q apart. v.bounds j i (omega (arith, count)) (omega (arith, count)) apart),
+            (none_unsound (length asked.places) pairing v.partners v.distinct),
+        none_differ page.places asked.places pairing v.places,
+        none_exceeds kind page.bound asked.bound pairing (λ j i p q apart. v.bounds j i (omega (arith, count)) (omega (arith, count)) apart),
       )

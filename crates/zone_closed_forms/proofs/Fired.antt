@@ -9,7 +9,7 @@ use Rattle.zones.specs.Predecessors.{staying, picked, narrowed_by, matches}
 use Rattle.zones.specs.Zones.{Zone, points}
 use Rattle.zone_cells.specs.Cells.{arc_at}
 use Rattle.zone_cells.proofs.Steps.{Good, Added, to_clock, from_clock, range_sizes, matches_below, staying_inside, firing_predecessor, firing_good}
-use Rattle.zone_closed_forms.specs.ClosedForms.{Rows, by_clock, spread, replaced, narrowed_from}
+use Rattle.zone_closed_forms.specs.ClosedForms.{ClockRows, by_clock, spread, replaced, narrowed_from}
 use Rattle.zone_closed_forms.specs.Laws.{Listed, FiredForm, FiredFormOr}
 use Rattle.zone_closed_forms.proofs.Greatest.{Consistent}
 use Rattle.zone_closed_forms.proofs.Laid.{Laid, shortest, shortest_still, shortest_to, shortest_from}
@@ -23,14 +23,14 @@ every_arc P (x ∷ xs) (suc i) d h k = every_arc P xs i d h.1 (omega arith)
 
 module _ {B : Type 0} (kind : Kind B) where
   -- ---- the points that stay, and behind them the arcs' tokens
-  module _ (n : ℕ) (some : 1 ≤ n) (x : Matrix B) (g : Good kind n (2 ^ 22) x) (rows : Rows B) (h : Laid kind n x rows) (stay : List ℕ) (inside : (j : ℕ) → get_or (0 ∷ stay) j 0 < n) (places : ℕ) (arcs : List (Arc B)) (limits : Every (ArcLimits kind places) arcs) where
+  module _ (n : ℕ) (some : 1 ≤ n) (x : Matrix B) (g : Good kind n (2 ^ 22) x) (rows : ClockRows B) (h : Laid kind n x rows) (stay : List ℕ) (inside : (j : ℕ) → get_or (0 ∷ stay) j 0 < n) (places : ℕ) (arcs : List (Arc B)) (limits : Every (ArcLimits kind places) arcs) where
     abbrev kept : List ℕ
     kept = 0 ∷ stay
 
     abbrev m : ℕ
     m = suc (length stay)
 
-    abbrev now : Rows B
+    abbrev now : ClockRows B
     now = spread kind (0 ∷ stay) arcs rows
 
     abbrev off : Matrix B
@@ -115,7 +115,7 @@ module _ {B : Type 0} (kind : Kind B) where
     inside : Every (λ d. d < points z) matching
     inside = matches_below z.places t.outputs matching matched
 
-    fired : (rows : Rows B) → Exact kind (points z) z.bound (narrowed_by kind t.outputs matching z.bound) rows → FiredForm kind t matching z rows
+    fired : (rows : ClockRows B) → Exact kind (points z) z.bound (narrowed_by kind t.outputs matching z.bound) rows → FiredForm kind t matching z rows
     fired rows e =
         record {
           is = firing_predecessor kind t matching z places h.few good limits matched narrow c.normal c.none y added;
@@ -137,7 +137,7 @@ module _ {B : Type 0} (kind : Kind B) where
         added : Added kind (suc (length (staying matching z))) t.inputs (length t.inputs) (picked (0 ∷ staying matching z) (shortest kind z.bound rows)) (replaced kind z.bound (0 ∷ staying matching z) t.inputs rows)
         added = replaced_added (points z) (omega arith) z.bound good rows e.laid (staying matching z) (staying_inside matching z) places t.inputs limits.inputs
 
-    fired_or : (o : Option (Rows B)) → ExactOr kind (points z) z.bound (narrowed_by kind t.outputs matching z.bound) o → FiredFormOr kind t matching z o
+    fired_or : (o : Option (ClockRows B)) → ExactOr kind (points z) z.bound (narrowed_by kind t.outputs matching z.bound) o → FiredFormOr kind t matching z o
     fired_or None e = exact_negative kind z h places t.outputs matching limits.outputs inside e
     fired_or (Some rows) e = fired rows e
 

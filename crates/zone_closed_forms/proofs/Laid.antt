@@ -7,11 +7,11 @@ use Rattle.zone_walks.proofs.Closed.{Closed, Same}
 use Rattle.zone_walks.proofs.Lessers.{lesser_cases, lesser_left, lesser_right, lesser_size, lesser_is_left, lesser_is_right}
 use Rattle.zone_walks.proofs.Sums.{zero_after}
 use Rattle.zone_cells.proofs.Steps.{Good}
-use Rattle.zone_closed_forms.specs.ClosedForms.{Rows, by_clock, closed}
+use Rattle.zone_closed_forms.specs.ClosedForms.{ClockRows, by_clock, closed}
 use Rattle.zone_closed_forms.proofs.Shorter.{Under, longer_after, longer_before, longer_between}
 
 -- rows over the bounds x: no way through another point is shorter than up or low, and no round trip is below zero
-pub record Laid {B : Type 0} (kind : Kind B) (n : ℕ) (x : Matrix B) (rows : Rows B) : Type 0 where
+pub record Laid {B : Type 0} (kind : Kind B) (n : ℕ) (x : Matrix B) (rows : ClockRows B) : Type 0 where
   pub up_sized : (j : ℕ) → j < n → kind.size (rows.up j) ≤ 2 ^ 23
   pub low_sized : (k : ℕ) → k < n → kind.size (rows.low k) ≤ 2 ^ 23
   pub up_first : rows.up 0 ≡ kind.zero
@@ -23,10 +23,10 @@ pub record Laid {B : Type 0} (kind : Kind B) (n : ℕ) (x : Matrix B) (rows : Ro
   pub back : (i : ℕ) → i < n → kind.at_most kind.zero (kind.sum (rows.low i) (rows.up i)) ≡ true
 
 -- the closed form, also at the clock and on the diagonal
-abbrev pub shortest : {B : Type 0} → Kind B → Matrix B → Rows B → Matrix B
+abbrev pub shortest : {B : Type 0} → Kind B → Matrix B → ClockRows B → Matrix B
 shortest kind x rows j k = lesser kind (x j k) (by_clock kind rows j k)
 
-module _ {B : Type 0} (kind : Kind B) (n : ℕ) (some : 1 ≤ n) (x : Matrix B) (g : Good kind n (2 ^ 22) x) (rows : Rows B) (h : Laid kind n x rows) where
+module _ {B : Type 0} (kind : Kind B) (n : ℕ) (some : 1 ≤ n) (x : Matrix B) (g : Good kind n (2 ^ 22) x) (rows : ClockRows B) (h : Laid kind n x rows) where
   pub shortest_to : (j : ℕ) → j < n → shortest kind x rows j 0 ≡ rows.up j
   shortest_to j l =
       let e : by_clock kind rows j 0 ≡ rows.up j = ap (kind.sum (rows.up j)) h.low_first ∙ zero_after kind (rows.up j) (omega (arith, h.up_sized j l)) in

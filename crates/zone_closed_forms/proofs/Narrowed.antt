@@ -10,7 +10,7 @@ use Rattle.zones.specs.Predecessors.{narrowed_by}
 use Rattle.zones.specs.Zones.{Zone, points}
 use Rattle.zone_cells.specs.Drafts.{largest_listed}
 use Rattle.zone_cells.proofs.Steps.{Good, normal_good, narrow_same, narrow_sized, narrow_still}
-use Rattle.zone_closed_forms.specs.ClosedForms.{Rows, closed, narrowed_from, begun}
+use Rattle.zone_closed_forms.specs.ClosedForms.{ClockRows, closed, narrowed_from, begun}
 use Rattle.zone_closed_forms.specs.Laws.{Listed, NarrowedFormOr}
 use Rattle.zone_closed_forms.proofs.Greatest.{ClosedBelow, Consistent, no_closed, greatest_normal}
 use Rattle.zone_closed_forms.proofs.Laid.{shortest, shortest_closed, shortest_sized, shortest_is_closed}
@@ -40,7 +40,7 @@ module _ {B : Type 0} (kind : Kind B) (z : Zone B) (h : Listed kind z) where
     pub exact_or : ExactOr kind (points z) z.bound (narrowed_by kind arcs matching z.bound) (narrowed_from kind arcs matching z.bound)
     exact_or = all_exact kind (points z) (omega arith) z.bound listed_good places arcs matching z.bound (begun z.bound) limits inside (begun_exact kind (points z) (omega arith) z.bound listed_good)
 
-    pub exact_consistent : (rows : Rows B) → Exact kind (points z) z.bound (narrowed_by kind arcs matching z.bound) rows → Consistent kind (points z) (counted kind (narrowed_by kind arcs matching z.bound)) (shortest kind z.bound rows)
+    pub exact_consistent : (rows : ClockRows B) → Exact kind (points z) z.bound (narrowed_by kind arcs matching z.bound) rows → Consistent kind (points z) (counted kind (narrowed_by kind arcs matching z.bound)) (shortest kind z.bound rows)
     exact_consistent rows e =
         let closed_below : ClosedBelow kind (points z) narrow (shortest kind z.bound rows) = record {
           closed = shortest_closed kind (points z) (omega arith) z.bound listed_good rows e.laid;
@@ -56,7 +56,7 @@ module _ {B : Type 0} (kind : Kind B) (z : Zone B) (h : Listed kind z) where
     pub exact_negative : ((y : Matrix B) → ClosedBelow kind (points z) (narrowed_by kind arcs matching z.bound) y → ⊥) → Negative kind (points z) (counted kind (narrowed_by kind arcs matching z.bound))
     exact_negative none = same_negative kind (points z) narrow (counted kind narrow) back (no_closed kind (points z) (omega (arith, h.few)) narrow sized still none)
 
-    form_or : (o : Option (Rows B)) → ExactOr kind (points z) z.bound (narrowed_by kind arcs matching z.bound) o → NarrowedFormOr kind arcs matching z o
+    form_or : (o : Option (ClockRows B)) → ExactOr kind (points z) z.bound (narrowed_by kind arcs matching z.bound) o → NarrowedFormOr kind arcs matching z o
     form_or None e = exact_negative e
     form_or (Some rows) e =
         let c = exact_consistent rows e in

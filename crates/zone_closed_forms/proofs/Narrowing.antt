@@ -10,13 +10,13 @@ use Rattle.zone_walks.proofs.Lessers.{at_most_same, lesser_cases, lesser_left, l
 use Rattle.zone_walks.proofs.Sums.{zero_after, monotone_right}
 use Rattle.zones.specs.Predecessors.{narrowed, narrowed_by}
 use Rattle.zone_cells.proofs.Steps.{Good, range_sizes, narrow_below}
-use Rattle.zone_closed_forms.specs.ClosedForms.{Rows, begun, by_clock, crossed, narrowed_rows, all_narrowed}
+use Rattle.zone_closed_forms.specs.ClosedForms.{ClockRows, begun, by_clock, crossed, narrowed_rows, all_narrowed}
 use Rattle.zone_closed_forms.proofs.Greatest.{ClosedBelow}
 use Rattle.zone_closed_forms.proofs.Laid.{Laid, shortest, shortest_to, shortest_from}
 use Rattle.zone_closed_forms.proofs.Shorter.{Under, longer_after, longer_before, longer_between}
 
 -- the closed form over the rows is the greatest closed matrix below w
-pub record Exact {B : Type 0} (kind : Kind B) (n : ℕ) (x w : Matrix B) (rows : Rows B) : Type 0 where
+pub record Exact {B : Type 0} (kind : Kind B) (n : ℕ) (x w : Matrix B) (rows : ClockRows B) : Type 0 where
   pub laid : Laid kind n x rows
   pub narrower : Below kind n w x
   pub below : Below kind n (shortest kind x rows) w
@@ -24,7 +24,7 @@ pub record Exact {B : Type 0} (kind : Kind B) (n : ℕ) (x w : Matrix B) (rows :
   pub low_least : (y : Matrix B) → ClosedBelow kind n w y → (k : ℕ) → k < n → kind.at_most (y 0 k) (rows.low k) ≡ true
 
 -- the same of the rows that narrowing answers; none where nothing closed is below w
-abbrev pub ExactOr : {B : Type 0} → Kind B → ℕ → Matrix B → Matrix B → Option (Rows B) → Type 0
+abbrev pub ExactOr : {B : Type 0} → Kind B → ℕ → Matrix B → Matrix B → Option (ClockRows B) → Type 0
 ExactOr {B = B} kind n x w None = (y : Matrix B) → ClosedBelow kind n w y → ⊥
 ExactOr kind n x w (Some rows) = Exact kind n x w rows
 
@@ -54,8 +54,8 @@ module _ {B : Type 0} (kind : Kind B) (n : ℕ) (some : 1 ≤ n) (x : Matrix B) 
       }
 
   -- ---- one token
-  module _ (t : ℕ) (token : t < n) (range : Range B) (limits : RangeLimits kind range) (rows : Rows B) (h : Laid kind n x rows) (lower_fits : kind.at_most kind.zero (kind.sum range.lower (rows.up t)) ≡ true) (upper_fits : kind.at_most kind.zero (kind.sum (rows.low t) range.upper) ≡ true) where
-    abbrev next : Rows B
+  module _ (t : ℕ) (token : t < n) (range : Range B) (limits : RangeLimits kind range) (rows : ClockRows B) (h : Laid kind n x rows) (lower_fits : kind.at_most kind.zero (kind.sum range.lower (rows.up t)) ≡ true) (upper_fits : kind.at_most kind.zero (kind.sum (rows.low t) range.upper) ≡ true) where
+    abbrev next : ClockRows B
     next = narrowed_rows kind x t range rows
 
     lower_size : kind.size range.lower ≤ 32767
@@ -76,7 +76,7 @@ module _ {B : Type 0} (kind : Kind B) (n : ℕ) (some : 1 ≤ n) (x : Matrix B) 
     low_token : (k : ℕ) → kind.at_most (next.low k) (kind.sum range.lower (x t k)) ≡ true
     low_token k = lesser_right kind (rows.low k) (kind.sum range.lower (x t k))
 
-    -- the first clock's bounds stay zero
+    -- the clock's own bound stays zero, also as a way through the token
     up_start : next.up 0 ≡ kind.zero
     up_start =
         let le : Under kind (kind.sum (rows.low t) range.upper) (kind.sum (x 0 t) range.upper) = kind.monotone (rows.low t) (x 0 t) range.upper (omega (arith, h.low_sized t token, upper_size)) (omega (arith, g.sized 0 t some token, upper_size)) (h.low_below t token) in
@@ -162,7 +162,7 @@ module _ {B : Type 0} (kind : Kind B) (n : ℕ) (some : 1 ≤ n) (x : Matrix B) 
         cond-false (eqb 0 (suc d) && eqb (suc d) 0) _ _ (and_left (eqb 0 (suc d)) (eqb (suc d) 0) (ne_eqb 0 (suc d) (λ e. omega arith)))
         ∙ cond-true (eqb 0 0 && eqb (suc d) (suc d)) _ _ (and_from (eqb 0 0) (eqb (suc d) (suc d)) (eq-eqb 0 0 refl) (eq-eqb (suc d) (suc d) refl))
 
-    module _ (token : suc d < n) (limits : RangeLimits kind a.range) (rows : Rows B) (h : Exact kind n x w rows) where
+    module _ (token : suc d < n) (limits : RangeLimits kind a.range) (rows : ClockRows B) (h : Exact kind n x w rows) where
       wider : (y : Matrix B) → ClosedBelow kind n (narrowed kind (suc d) a.range w) y → ClosedBelow kind n w y
       wider y c = record { closed = c.closed; below = λ j k p q. kind.transitive _ (narrowed kind (suc d) a.range w j k) _ (c.below j k p q) (one_below j k p q); sized = c.sized }
 
@@ -212,7 +212,7 @@ module _ {B : Type 0} (kind : Kind B) (n : ℕ) (some : 1 ≤ n) (x : Matrix B) 
             (or_cases _ _ e)
 
       module _ (fits : crossed kind (suc d) a.range rows ≡ false) where
-        abbrev after : Rows B
+        abbrev after : ClockRows B
         after = narrowed_rows kind x (suc d) a.range rows
 
         laid : Laid kind n x (narrowed_rows kind x (suc d) a.range rows)
@@ -261,7 +261,7 @@ module _ {B : Type 0} (kind : Kind B) (n : ℕ) (some : 1 ≤ n) (x : Matrix B) 
             }
 
   -- ---- every matched token
-  pub all_exact : (places : ℕ) (arcs : List (Arc B)) (ds : List ℕ) (w : Matrix B) (rows : Rows B) → Every (ArcLimits kind places) arcs → Every (λ d. d < n) ds → Exact kind n x w rows → ExactOr kind n x (narrowed_by kind arcs ds w) (all_narrowed kind x arcs ds rows)
+  pub all_exact : (places : ℕ) (arcs : List (Arc B)) (ds : List ℕ) (w : Matrix B) (rows : ClockRows B) → Every (ArcLimits kind places) arcs → Every (λ d. d < n) ds → Exact kind n x w rows → ExactOr kind n x (narrowed_by kind arcs ds w) (all_narrowed kind x arcs ds rows)
   all_exact places [] ds w rows limits inside h = h
   all_exact places (a ∷ arcs) [] w rows limits inside h = h
   all_exact places (a ∷ arcs) (zero ∷ ds) w rows limits inside h = all_exact places arcs ds w rows limits.1 inside.1 h
@@ -275,7 +275,7 @@ module _ {B : Type 0} (kind : Kind B) (n : ℕ) (some : 1 ≤ n) (x : Matrix B) 
       less_still narrow y c = record { closed = c.closed; below = λ j k p q. kind.transitive _ (narrowed_by kind arcs ds narrow j k) _ (c.below j k p q) (narrow_below kind n arcs ds narrow j k p q); sized = c.sized }
 
   -- what is nowhere above the rows is nowhere above the closed form
-  pub exact_greatest : (w : Matrix B) (rows : Rows B) → Exact kind n x w rows → (y : Matrix B) → ClosedBelow kind n w y → Below kind n y (shortest kind x rows)
+  pub exact_greatest : (w : Matrix B) (rows : ClockRows B) → Exact kind n x w rows → (y : Matrix B) → ClosedBelow kind n w y → Below kind n y (shortest kind x rows)
   exact_greatest w rows h y c j k p q =
       lesser_greatest kind (x j k) (by_clock kind rows j k) (y j k) (kind.transitive _ (w j k) _ (c.below j k p q) (h.narrower j k p q))
       (kind.transitive _ (kind.sum (y j 0) (y 0 k)) _ (c.closed.settled 0 some j k p q)

@@ -6,7 +6,7 @@ use Rattle.zones.specs.Predecessors.{DelayPredecessor, FiringPredecessor, Void}
 use Rattle.zones.specs.Predecessors.{matches, narrowed_by}
 use Rattle.zones.specs.Zones.{Zone, Inconsistent, InNormalForm, NormalOf, SizedZone, points}
 use Rattle.zone_cells.specs.Drafts.{most_tokens, largest_listed, largest_predecessor}
-use Rattle.zone_closed_forms.specs.ClosedForms.{Rows, closed, narrowed_from}
+use Rattle.zone_closed_forms.specs.ClosedForms.{ClockRows, closed, narrowed_from}
 use Rattle.zone_closed_forms.specs.ClosedForms.{delayed_zone, fired_zone}
 
 -- a zone as a page holds it
@@ -22,14 +22,14 @@ narrowed_zone kind arcs matching z =
     record { places = z.places; bound = narrowed_by kind arcs matching z.bound }
 
 pub record NarrowedForm {B : Type 0} (kind : Kind B) (arcs : List (Arc B)) (matching : List ℕ)
-    (z : Zone B) (rows : Rows B) : Type 0 where
+    (z : Zone B) (rows : ClockRows B) : Type 0 where
   pub consistent : Inconsistent kind (narrowed_zone kind arcs matching z) → ⊥
   pub normal : NormalOf kind (narrowed_zone kind arcs matching z)
       (record { places = z.places; bound = closed kind z.bound rows })
 
--- rows of the normal form, or none where the narrowed zone is inconsistent
+-- clock rows of the normal form, or none where the narrowed zone is inconsistent
 abbrev pub NarrowedFormOr : {B : Type 0} →
-    Kind B → List (Arc B) → List ℕ → Zone B → Option (Rows B) → Type 0
+    Kind B → List (Arc B) → List ℕ → Zone B → Option (ClockRows B) → Type 0
 NarrowedFormOr kind arcs matching z None = Inconsistent kind (narrowed_zone kind arcs matching z)
 NarrowedFormOr kind arcs matching z (Some rows) = NarrowedForm kind arcs matching z rows
 
@@ -40,13 +40,13 @@ pub record DelayedForm {B : Type 0} (kind : Kind B) (z : Zone B) : Type 0 where
 
 -- ---- a firing
 pub record FiredForm {B : Type 0} (kind : Kind B) (t : Transition B) (matching : List ℕ)
-    (z : Zone B) (rows : Rows B) : Type 0 where
+    (z : Zone B) (rows : ClockRows B) : Type 0 where
   pub is : FiringPredecessor kind t matching z (fired_zone kind t matching z rows)
   pub small : SizedZone kind largest_predecessor (fired_zone kind t matching z rows)
 
--- rows of the predecessor, or none where it is void
+-- clock rows of the predecessor, or none where it is void
 abbrev pub FiredFormOr : {B : Type 0} →
-    Kind B → Transition B → List ℕ → Zone B → Option (Rows B) → Type 0
+    Kind B → Transition B → List ℕ → Zone B → Option (ClockRows B) → Type 0
 FiredFormOr kind t matching z None = Void kind t matching z
 FiredFormOr kind t matching z (Some rows) = FiredForm kind t matching z rows
 

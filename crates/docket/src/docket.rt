@@ -4,6 +4,10 @@ ghost use Rattle.docket_rules.specs.Tables.{is_sealed};
 ghost use Rattle.docket_rules.specs.Worlds.{blank, listed_count};
 ghost use Rattle.std.specs.Prelude.{◌≡◌};
 
+mod discharge;
+mod open;
+mod post;
+
 use arrayvec::ArrayVec;
 use docket_dues::Item;
 use docket_refusals::CallRefusal;
@@ -20,12 +24,12 @@ const TARGET: Item = Item {
 
 #[derive(Drop)]
 pub struct Docket {
-    pub(crate) stage: Stage,
-    pub(crate) initial: InitialTokens,
+    stage: Stage,
+    initial: InitialTokens,
     // how many tokens each written page has, the target's first
-    pub(crate) counts: ArrayVec<u8, 64>,
+    counts: ArrayVec<u8, 64>,
     // vouchers taken
-    pub(crate) taken: u64,
+    taken: u64,
 }
 
 impl Model for Docket {

@@ -1,7 +1,7 @@
 use Rattle.std.proofs.Common.{◌≡◌, ◌++◌, drop}
 use Rattle.arrayvec.specs.ArrayVec.{array_vec_len}
 use Rattle.docket_rules.specs.Calls.{initial_tokens}
-use Rattle.docket.proofs.open.paired.Given as goal
+use Rattle.docket.proofs.docket.open.paired.Given as goal
 
 abbrev pub invariant-loop-place : goal.invariant-loop-place
 invariant-loop-place l =

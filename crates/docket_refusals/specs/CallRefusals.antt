@@ -1,9 +1,19 @@
--- The number and the text of each refusal of a docket's calls. Assumes nothing.
+-- The number and the text of each refusal of a docket's calls.
 use Rattle.std.specs.Prelude.{ℕ, List, codes}
 use Rattle.zone_pages.specs.Objections.{objection_number, objection_text}
 use Rattle.docket_records.specs.Refusals.{entry_number_of, entry_text}
 use Rattle.docket_refusals.specs.declared.refusal.CallRefusal.{CallRefusal}
-use Rattle.docket_refusals.specs.declared.refusal.CallRefusal.TheVariants.{Entry, Covered, NotVoid, VoidItem, NoSuchZone, Objected, WrongStage, WrongMemory, FullList}
+use Rattle.docket_refusals.specs.declared.refusal.CallRefusal.TheVariants.{
+  Entry,
+  Covered,
+  NotVoid,
+  VoidItem,
+  NoSuchZone,
+  Objected,
+  WrongStage,
+  WrongMemory,
+  FullList,
+}
 
 abbrev pub call_refusal_number : CallRefusal → ℕ
 call_refusal_number (Entry e) = entry_number_of e
@@ -24,5 +34,6 @@ call_refusal_text VoidItem = codes "the item is void"
 call_refusal_text NoSuchZone = codes "there is no listed zone of this number"
 call_refusal_text (Objected o) = objection_text o
 call_refusal_text WrongStage = codes "the call does not belong to this stage"
-call_refusal_text WrongMemory = codes "lent memory is not of its length, or initial places and ages differ in number"
+call_refusal_text WrongMemory =
+    codes "lent memory is not of its length, or initial places and ages differ in number"
 call_refusal_text FullList = codes "there are 63 listed zones already"

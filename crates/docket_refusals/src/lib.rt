@@ -1,4 +1,4 @@
-// Why a docket's call is refused.
+//! Why a docket's call is refused.
 #![tactic(auto)]
 
 pub mod refusal;

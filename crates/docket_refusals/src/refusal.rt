@@ -9,25 +9,27 @@ use net_records::fault::Refusal;
 use std::fmt;
 use zone_pages::Objection;
 
+/// By number; the lowest number that holds counts, after 40, 41 and 42. Each says whose it is to mend.
 #[derive(Clone, Copy, PartialEq, Eq, Debug)]
 pub enum CallRefusal {
-    // 20 to 25: what is wrong with a record, or with the initial tokens
+    /// 20 to 25: what is wrong with a record, or with the initial tokens. Whoever wrote them.
     Entry(EntryRefusal),
-    // 26: the initial marking satisfies the listed zone
+    /// 26: the initial marking satisfies the listed zone. Whoever chose the zones.
     Covered,
-    // 27: void is claimed for an item that is not void
+    /// 27: void is claimed for an item that is not void. Whoever wrote the voucher.
     NotVoid,
-    // 28: a void item is given a pairing
+    /// 28: a void item is given a pairing. Whoever wrote the voucher.
     VoidItem,
-    // 29: the voucher names a zone outside the list
+    /// 29: the voucher names a zone outside the list. Whoever wrote the voucher.
     NoSuchZone,
-    // 30 to 32: what stands against the zone that a voucher names
+    /// 30 to 32: what stands against the zone that a voucher names. Whoever wrote the voucher.
     Objected(Objection),
-    // 40
+    /// 40: the call does not belong to this stage. The calling program.
     WrongStage,
-    // 41: lent memory is not of the stated length, or those of initial places and ages differ in length
+    /// 41: lent memory is not of the stated length, or initial places and ages differ in number. The
+    /// calling program.
     WrongMemory,
-    // 42: a 64th zone
+    /// 42: a 64th zone. The calling program.
     FullList,
 }
 

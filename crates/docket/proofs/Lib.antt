@@ -1,7 +1,7 @@
 pub mod Parts
 pub mod Records
 pub mod Rows
-pub mod Given
+pub mod Gathered
 mod Named
 mod Objected
 mod Judged

@@ -1,4 +1,4 @@
--- What follows an item, asked of the places of its page. Assumes nothing.
+-- What follows an item, asked of the places of its page.
 use Rattle.std.proofs.Common.{◌≡◌, ℕ, ◌+◌, ◌≤◌, min, List, [], length, Option, sym, ap, ◌∙◌}
 use Rattle.std.proofs.lemmas.List.{length-map}
 use Rattle.bounds.specs.Kinds.{Kind}
@@ -9,11 +9,11 @@ use Rattle.docket_dues.specs.Dues.{Leads}
 use Rattle.docket_dues.specs.declared.item.Item.{Item}
 use Rattle.nets.specs.Nets.{Net, numbered}
 use Rattle.docket_rules.specs.Calls.{most_taken, stage_of}
-use Rattle.docket_rules.specs.Worlds.{World, listed_count, listed_pages, page_places}
+use Rattle.docket_rules.specs.Worlds.{World, listed_count, listed_pages, places_at}
 use Rattle.docket_rules.specs.declared.stage.Stage.{Stage}
 
 module _ {B : Type 0} (kind : Kind B) (net : Net B) (w : World B) (d : Item) where
-  pub advanced : (zones : ℕ) (places : List ℕ) (next : Option Item) (stage : Stage) (taken : ℕ) → zones ≡ listed_count w.state → places ≡ page_places w d.zone → ((listed : List (List ℕ)) → length listed ≡ zones → (1 ≤ d.zone → numbered listed d.zone [] ≡ places) → Leads net listed d next) → stage ≡ stage_of next → taken ≡ min (w.state.taken + 1) most_taken → Advanced kind net w d (record { stage = stage; initial = w.state.initial; counts = w.state.counts; taken = taken })
+  pub advanced : (zones : ℕ) (places : List ℕ) (next : Option Item) (stage : Stage) (taken : ℕ) → zones ≡ listed_count w.state → places ≡ places_at w d.zone → ((listed : List (List ℕ)) → length listed ≡ zones → (1 ≤ d.zone → numbered listed d.zone [] ≡ places) → Leads net listed d next) → stage ≡ stage_of next → taken ≡ min (w.state.taken + 1) most_taken → Advanced kind net w d (record { stage = stage; initial = w.state.initial; counts = w.state.counts; taken = taken })
   advanced zones places next stage taken zones_are places_are leads stage_is taken_is =
       let listed = listed_pages kind w in
       record {

@@ -1,5 +1,5 @@
 -- What it means that nothing stands against a page's vouching; and the same stands for zones with the same places and bounds.
--- Assumes nothing.
+--
 use Rattle.std.proofs.Common.{◌≡◌, ℕ, Bool, true, false, cond, List, Ok, Err, Result, sym, refl, ap, ◌∙◌}
 use Rattle.std.proofs.lemmas.Bool.{true≢false}
 use Rattle.zone_pages.proofs.Means.{means}

@@ -1,10 +1,11 @@
--- A record that was read: what it is refused for, and the page that its zone is written into. Assumes nothing.
-use Rattle.std.proofs.Common.{◌≡◌, ℕ, Bool, true, false, cond, List, ◌∷◌, ◌++◌, length, Ok, Err, Result, Some, None, Option, refl, sym, ap, ◌≤◌, subst, inl, inr, arith}
+-- A record that was read: what it is refused for, and the page that its zone is written into.
+use Rattle.std.proofs.Common.{◌≡◌, ℕ, Bool, true, false, cond, List, ◌∷◌, ◌++◌, length, Ok, Err, Result, Some, None, Option, refl, sym, ap, ◌≤◌, ◌∙◌, subst, inl, inr, arith}
 use Rattle.std.proofs.lemmas.Bool.{false≢true}
 use Rattle.arrayvec.specs.ArrayVec.{ArrayVec}
 use Rattle.bounds.specs.Kinds.{Kind}
 use Rattle.zone_cells.specs.Drafts.{draft_zone}
 use Rattle.zone_cells.specs.Loading.{DraftFormed}
+use Rattle.zone_cells.specs.Sizes.{draft_cells, page_cells, page_places}
 use Rattle.docket_records.specs.ZoneRecords.{mark_under_plain, no_such_place, not_zero, too_many, wrong_length, zone_fault, zone_of}
 use Rattle.docket_records.specs.declared.fault.EntryRefusal.{EntryRefusal}
 use Rattle.docket_records.specs.declared.fault.EntryRefusal.TheVariants.{WrongLength, NotZero, TooMany, NoSuchPlace, MarkUnderPlain, Inconsistent as NotConsistent}
@@ -67,7 +68,7 @@ module _ {B : Type 0} (kind : Kind B) (net_places : ℕ) (bytes : List ℕ) (res
   abbrev last : List Row
   last = row (Entry NotConsistent) (Inconsistent kind z) ∷ rest
 
-  recorded_as : (before after : List B) (result : Result (ArrayVec ℕ) EntryRefusal) → length before ≡ 169 → Read kind net_places bytes before after result → (fault : Option EntryRefusal) → zone_fault kind.marks net_places bytes ≡ fault → Found rows last fault → Recorded after result
+  recorded_as : (before after : List B) (result : Result (ArrayVec ℕ) EntryRefusal) → length before ≡ draft_cells → Read kind net_places bytes before after result → (fault : Option EntryRefusal) → zone_fault kind.marks net_places bytes ≡ fault → Found rows last fault → Recorded after result
   recorded_as before after result full read (Some r) is h = subst (Recorded after) (sym (read.refused r is).answer) h
   recorded_as before after (Err r) full read None is h = h (Err (Entry r)) (inl (read.settled is full, ap (λ e. Err (Entry e)) (read.taken is)))
   recorded_as before after (Ok tokens) full read None is h =
@@ -78,7 +79,7 @@ module _ {B : Type 0} (kind : Kind B) (net_places : ℕ) (bytes : List ℕ) (res
         places = read.taken is;
       }
 
-  pub recorded : (before after : List B) (result : Result (ArrayVec ℕ) EntryRefusal) → length before ≡ 169 → Read kind net_places bytes before after result → Recorded after result
+  pub recorded : (before after : List B) (result : Result (ArrayVec ℕ) EntryRefusal) → length before ≡ draft_cells → Read kind net_places bytes before after result → Recorded after result
   recorded before after result full read =
       recorded_as before after result full read (zone_fault kind.marks net_places bytes) refl
       (found (wrong_length bytes) (not_zero bytes) (too_many bytes) (no_such_place net_places bytes) (mark_under_plain kind.marks bytes) last)
@@ -99,8 +100,17 @@ module _ {B : Type 0} (kind : Kind B) (z : Zone B) (draft : List B) (tokens : Li
   pub few_tokens : length tokens ≤ 8
   few_tokens = page_formed.few
 
-  pub page_written : (p : ℕ) (before after : World B) → after.cells ≡ with_page 81 p (cells_of kind form) before.cells → after.places ≡ with_page 8 p (page_places_of form) before.places → PageWritten kind p z before after
-  page_written p before after cells_are places_are = record { form = form; normal = normal; formed = page_formed; cells = cells_are; places = places_are }
+  -- by the number and the tokens that the page was written with
+  pub page_written : (p n : ℕ) (ps : List ℕ) (before after : World B) → n ≡ p → ps ≡ tokens → after.cells ≡ with_page page_cells n (cells_of kind (draft_zone kind ps draft)) before.cells → after.places ≡ with_page page_places n (page_places_of (draft_zone kind ps draft)) before.places → PageWritten kind p z before after
+  page_written p n ps before after number copied cells_are places_are =
+      let as_form = ap (λ qs. draft_zone kind qs draft) copied in
+      record {
+        form = form;
+        normal = normal;
+        formed = page_formed;
+        cells = cells_are ∙ ap (λ y. with_page page_cells n (cells_of kind y) before.cells) as_form ∙ ap (λ q. with_page page_cells q (cells_of kind form) before.cells) number;
+        places = places_are ∙ ap (λ y. with_page page_places n (page_places_of y) before.places) as_form ∙ ap (λ q. with_page page_places q (page_places_of form) before.places) number;
+      }
 
   pub form_covers : (m : Marking) → Satisfies kind 1 z m → Satisfies kind 1 form m
   form_covers m s = (zones_keep_laws kind).to_form 1 z form m (omega arith) normal s

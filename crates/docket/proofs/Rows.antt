@@ -1,4 +1,4 @@
--- What answers by a table are. Assumes nothing.
+-- What answers by a table are.
 use Rattle.std.proofs.Common.{◌≡◌, false, List, [], ◌∷◌, Ok, Err, is_err, ap, sym, ◌∙◌, ⊎_elim}
 use Rattle.std.proofs.lemmas.Bool.{true≢false}
 use Rattle.docket_refusals.specs.declared.refusal.CallRefusal.{CallRefusal}

@@ -1,8 +1,9 @@
--- What weighing a voucher comes to, from what was read and what was made of the item; and a docket's call from that. Assumes nothing.
+-- What weighing a voucher comes to, from what was read and what was made of the item; and a docket's call from that.
 use Rattle.std.proofs.Common.{◌≡◌, ℕ, Bool, true, false, cond, not, ◌||◌, eqb, List, ◌++◌, length, replicate, is_err, Ok, Err, Option, Result, sym, refl, ap, ◌∙◌, subst, inr}
 use Rattle.std.proofs.lemmas.Bool.{and_parts, both_ways, cond-false, eqb-true, true≢false}
 use Rattle.arrayvec.specs.ArrayVec.{ArrayVec}
 use Rattle.bounds.specs.Kinds.{Kind}
+use Rattle.zone_cells.specs.Sizes.{draft_cells}
 use Rattle.docket.specs.Discharging.{Advanced, Weighed, judged, voucher_read}
 use Rattle.docket.proofs.Judged.{judged_answered, judged_answers, judged_late}
 use Rattle.docket.proofs.Named.{item_due, item_held}
@@ -17,7 +18,7 @@ use Rattle.nets.specs.Nets.{Net}
 use Rattle.docket_refusals.specs.declared.refusal.CallRefusal.{CallRefusal}
 use Rattle.docket_rules.specs.Calls.{Discharges, Left, Sound, is_early}
 use Rattle.docket_rules.specs.Tables.{Answer, Answers, Begins, discharge_rows, discharge_table, due_in, is_proving, item_rows, partners_used, voucher_rows}
-use Rattle.docket_rules.specs.Worlds.{State, World, listed_pages, page_cells, page_of, page_places, whole}
+use Rattle.docket_rules.specs.Worlds.{Lent, State, World, book_whole, listed_pages, cells_at, page_of, places_at, whole, with_scratch}
 use Rattle.docket_rules.specs.declared.stage.Stage.TheVariants.{Proving}
 
 -- ---- the voucher
@@ -40,11 +41,11 @@ read_is s bytes v = by (eqb (length bytes) 6) _ refl refl
 
 -- ---- weighed
 module _ {B : Type 0} (kind : Kind B) (net : Net B) (w : World B) (bytes : List ℕ) (d : Item) where
-  module _ (places : List ℕ) (cells : List B) (places_are : places ≡ page_places w d.zone) (cells_are : cells ≡ page_cells w d.zone) (before after : List B) (asked : Option (ArrayVec ℕ)) (made : ZoneMade kind net places cells d before after asked) where
-    item_made : w.state.stage ≡ Proving d → length before ≡ 169 → Sound kind net w → ItemAnswer kind net (page_of kind w 0) (listed_pages kind w) d after asked
+  module _ (places : List ℕ) (cells : List B) (places_are : places ≡ places_at w d.zone) (cells_are : cells ≡ cells_at w d.zone) (before after : List B) (asked : Option (ArrayVec ℕ)) (made : ZoneMade kind net places cells d before after asked) where
+    item_made : w.state.stage ≡ Proving d → length before ≡ draft_cells → Sound kind net w → ItemAnswer kind net (page_of kind w 0) (listed_pages kind w) d after asked
     item_made proving full sound =
         let named = zone_named (page_of kind w 0) (listed_pages kind w) d.zone in
-        let held = subst (λ c. PageHolds kind named places c) (sym cells_are) (subst (λ p. PageHolds kind named p (page_cells w d.zone)) (sym places_are) (item_held kind w net d sound proving)) in
+        let held = subst (λ c. PageHolds kind named places c) (sym cells_are) (subst (λ p. PageHolds kind named p (cells_at w d.zone)) (sym places_are) (item_held kind w net d sound proving)) in
         made.answered (page_of kind w 0) (listed_pages kind w) full (item_due kind w net d sound proving) held
 
     pub weighed : (v : Voucher) (answer : Answer) → voucher_read w.state bytes ≡ Ok v → answer ≡ judged kind w v after asked → Weighed kind net w bytes d before after answer
@@ -59,30 +60,31 @@ module _ {B : Type 0} (kind : Kind B) (net : Net B) (w : World B) (bytes : List 
                 λ h. both_ways (eqb (length bytes) 6) h said.long,
                 inr (
                   λ h. both_ways _ said.clean h,
-                  subst (λ u. Answers (item_rows kind net w d u) answer) (sym said.is) (subst (Answers (item_rows kind net w d v)) (sym judges) (judged_answers kind net w d v after asked (item_made proving full sound))),
+                  subst (λ u. Answers (item_rows kind net w.state (page_of kind w) d u) answer) (sym said.is) (subst (Answers (item_rows kind net w.state (page_of kind w) d v)) (sym judges) (judged_answers kind net w d v after asked (item_made proving full sound))),
                 ),
               );
           answered = λ proving full sound e. judged_answered kind net w d v after asked (item_made proving full sound) (sym judges ∙ e);
         }
 
   -- ---- the call
-  module _ (lent worked left : List B) (proving : w.state.stage ≡ Proving d) (is_whole : whole w lent ≡ true) (wiped : left ≡ replicate (length worked) kind.no_limit) where
-    full : length lent ≡ 169
-    full =
-        let books = and_parts (eqb (length w.cells) 5184) _ is_whole in
-        eqb-true (length lent) 169 (and_parts (eqb (length w.places) 512) _ books.1).1
+  module _ (lent worked left : List B) (proving : w.state.stage ≡ Proving d) (is_whole : whole (with_scratch w lent) ≡ true) (wiped : left ≡ replicate (length worked) kind.no_limit) where
+    abbrev before : Lent B
+    before = with_scratch w lent
+
+    full : length lent ≡ draft_cells
+    full = eqb-true (length lent) draft_cells (and_parts (book_whole w) _ is_whole).1
 
     module _ (answer : Answer) (by : Weighed kind net w bytes d lent worked answer) where
-      call_begins : Begins (discharge_rows w lent bytes) answer
-      call_begins = inr (λ h. both_ways (is_proving w.state.stage) h (ap is_proving proving), inr (λ h. both_ways (whole w lent) h is_whole, by.begins))
+      call_begins : Begins (discharge_rows w.state (whole before) bytes) answer
+      call_begins = inr (λ h. both_ways (is_proving w.state.stage) h (ap is_proving proving), inr (λ h. both_ways (whole before) h is_whole, by.begins))
 
-      call_answers : Sound kind net w → Answers (discharge_table kind net w lent bytes) answer
+      call_answers : Sound kind net w → Answers (discharge_table kind net w.state (whole before) (page_of kind w) bytes) answer
       call_answers sound =
           inr (
             λ h. both_ways (is_proving w.state.stage) h (ap is_proving proving),
             inr (
-              λ h. both_ways (whole w lent) h is_whole,
-              subst (λ e. Answers (voucher_rows w.state bytes ++ item_rows kind net w e (voucher_of bytes)) answer) (sym (ap due_in proving)) (by.answers proving full sound),
+              λ h. both_ways (whole before) h is_whole,
+              subst (λ e. Answers (voucher_rows w.state bytes ++ item_rows kind net w.state (page_of kind w) e (voucher_of bytes)) answer) (sym (ap due_in proving)) (by.answers proving full sound),
             ),
           )
 
@@ -90,11 +92,11 @@ module _ {B : Type 0} (kind : Kind B) (net : Net B) (w : World B) (bytes : List 
       call_left =
           wiped
           ∙ ap (λ n. replicate n kind.no_limit) (by.kept ∙ full)
-          ∙ sym (cond-false (is_early answer) lent (replicate 169 kind.no_limit) by.late)
+          ∙ sym (cond-false (is_early answer) lent (replicate draft_cells kind.no_limit) by.late)
 
-    pub call_refused : (r : CallRefusal) (vouched answer : Answer) → vouched ≡ Err r → answer ≡ Err r → Weighed kind net w bytes d lent worked vouched → Discharges kind net bytes lent left w w answer
-    call_refused r vouched answer vouched_is is weighed =
-        let by = subst (Weighed kind net w bytes d lent worked) (vouched_is ∙ sym is) weighed in
+    pub call_refused : (r : CallRefusal) (vouched answer : Answer) → vouched ≡ Err r → answer ≡ Err r → Weighed kind net w bytes d lent worked vouched → Discharges kind net bytes before w.state left answer
+    call_refused r vouched answer vouched_is is said =
+        let by = subst (Weighed kind net w bytes d lent worked) (vouched_is ∙ sym is) said in
         record {
           begins = call_begins answer by;
           answers = call_answers answer by;
@@ -103,9 +105,9 @@ module _ {B : Type 0} (kind : Kind B) (net : Net B) (w : World B) (bytes : List 
           taken = λ e. absurd (true≢false (ap is_err (sym is ∙ e)));
         }
 
-    pub call_taken : (vouched : Answer) → vouched ≡ Ok tt → Weighed kind net w bytes d lent worked vouched → (after : State) → Advanced kind net w d after → Discharges kind net bytes lent left w (record { state = after; cells = w.cells; places = w.places }) (Ok tt)
-    call_taken vouched is weighed after next =
-        let by = subst (Weighed kind net w bytes d lent worked) is weighed in
+    pub call_taken : (vouched : Answer) → vouched ≡ Ok tt → Weighed kind net w bytes d lent worked vouched → (after : State) → Advanced kind net w d after → Discharges kind net bytes before after left (Ok tt)
+    call_taken vouched is said after next =
+        let by = subst (Weighed kind net w bytes d lent worked) is said in
         record {
           begins = call_begins (Ok tt) by;
           answers = call_answers (Ok tt) by;
@@ -116,8 +118,6 @@ module _ {B : Type 0} (kind : Kind B) (net : Net B) (w : World B) (bytes : List 
                 next = next.next;
                 leads = subst (λ s. Leads net (places_of_all (listed_pages kind w)) (due_in s) next.next) (sym proving) next.leads;
                 state = next.state;
-                cells = refl;
-                places = refl;
                 answered = λ sound. subst (λ s. Answered kind net (page_of kind w 0) (listed_pages kind w) (due_in s)) (sym proving) (by.answered proving full sound refl);
               };
         }

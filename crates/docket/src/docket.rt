@@ -1,4 +1,4 @@
-// What a docket keeps between its calls: how far it has come, the initial tokens, and how many tokens each page has.
+// A docket: what it keeps between its calls, and the calls that are lent no memory.
 ghost use Rattle.docket_rules.specs.Calls.{Closes, next_due_of};
 ghost use Rattle.docket_rules.specs.Tables.{is_sealed};
 ghost use Rattle.docket_rules.specs.Worlds.{blank, listed_count};
@@ -22,6 +22,7 @@ const TARGET: Item = Item {
     matching: 0,
 };
 
+/// What is kept of one check between its calls. The zones are in the book, which each call is lent.
 #[derive(Drop)]
 pub struct Docket {
     stage: Stage,
@@ -37,10 +38,15 @@ impl Model for Docket {
 
     ghost Value = { State };
 
-    ghost view = { λ d. record { stage = d.stage; initial = d.initial.items; counts = d.counts.items; taken = d.taken } };
+    ghost view = {
+        λ d. record {
+        stage = d.stage; initial = d.initial.items; counts = d.counts.items; taken = d.taken
+        }
+    };
 }
 
 impl Docket {
+    /// A blank docket.
     pub fn new() -> Docket
         ensures { result ≡ blank }
     {
@@ -52,7 +58,7 @@ impl Docket {
         }
     }
 
-    // No zone may be posted any more: the items are due, the target's first.
+    /// No zone may be posted any more: the items are due, the target's first.
     pub fn close(&mut self) -> Result<(), CallRefusal>
         ensures { Closes self.old self.new result }
     {
@@ -64,7 +70,7 @@ impl Docket {
         Ok(())
     }
 
-    // The first item that is due; none outside proving.
+    /// The first item that is due; none outside proving.
     pub fn next_due(&self) -> Option<Item>
         ensures { result ≡ next_due_of self.now.stage }
     {
@@ -74,20 +80,21 @@ impl Docket {
         }
     }
 
+    /// Whether every item is vouched for.
     pub fn is_sealed(&self) -> bool
         ensures { result ≡ is_sealed self.now.stage }
     {
         self.stage == Stage::Sealed
     }
 
-    // How many zones are listed.
+    /// How many zones are listed.
     pub fn listed(&self) -> u8
         ensures { result ≡ listed_count self.now }
     {
         (self.counts.len() as u8).saturating_sub(1)
     }
 
-    // How many vouchers were taken.
+    /// How many vouchers were taken.
     pub fn taken(&self) -> u64
         ensures { result ≡ self.now.taken }
     {

@@ -1,4 +1,4 @@
-// The running code of a docket, over one net store and one lent book.
+//! The running code of a docket, over one net store and one lent book.
 #![tactic(auto)]
 
 pub mod docket;

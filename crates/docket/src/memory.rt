@@ -1,6 +1,9 @@
 // Memory that a call is lent: whether it is whole, and the pages of the book.
+ghost use Rattle.docket.specs.Dockets.{with_part};
 ghost use Rattle.zone_cells.specs.Cells.{in_draft};
 ghost use Rattle.zone_cells.specs.Drafts.{draft_zone};
+ghost use Rattle.zone_cells.specs.Sizes.{draft_cells, page_cells, page_places};
+ghost use Rattle.docket_rules.specs.Worlds.{book_cells, book_places};
 ghost use Rattle.docket_rules.specs.Calls.{cell_of, cells_of, page_places_of, with_page};
 ghost use Rattle.std.specs.List.{range_with_len};
 ghost use Rattle.std.specs.Prelude.{◌≡◌, ◌==◌, ◌&&◌, ◌+◌, ◌*◌, ◌/◌, ◌%◌, ◌<◌, ◌≤◌, ◌++◌, ℕ, length, take, drop, map};
@@ -10,15 +13,19 @@ use zone_drafts::bytes::byte;
 use zone_drafts::draft::{DRAFT_CELLS, bound_at};
 use zone_pages::Page;
 
-// 64 pages of 81 cells.
+/// 64 pages of 81 cells.
 pub const BOOK_CELLS: usize = 5184;
 
-// Eight to a page.
+/// Eight to a page.
 pub const BOOK_PLACES: usize = 512;
 
 // Whether the book and the scratch page have the stated lengths.
 pub(crate) fn is_whole<B: Bound>(cells: &[B], places: &[u8], scratch: &[B]) -> bool
-    ensures { result ≡ (length cells.now == 5184 && (length places.now == 512 && length scratch.now == 169)) }
+    ensures {
+        result ≡
+        ((length cells.now == book_cells && length places.now == book_places) &&
+        length scratch.now == draft_cells)
+    }
 {
     cells.len() == BOOK_CELLS && places.len() == BOOK_PLACES && scratch.len() == DRAFT_CELLS
 }
@@ -38,8 +45,8 @@ pub(crate) fn page<'a, 'b, B: Bound>(
     number: u8,
     tokens: u8,
 ) -> Page<'a, 'b, B>
-    ensures cells { result.cells.now ≡ take 81 (drop (81 * number) cells.now) }
-    ensures places { result.places.now ≡ take tokens (drop (8 * number) places.now) }
+    ensures cells { result.cells.now ≡ take page_cells (drop (page_cells * number) cells.now) }
+    ensures places { result.places.now ≡ take tokens (drop (page_places * number) places.now) }
 {
     Page {
         cells: part(cells, 81 * usize::from(number), 81),
@@ -51,7 +58,10 @@ pub(crate) fn page<'a, 'b, B: Bound>(
 fn write_part<X: Copy, F: Fn(u8) -> X>(items: &mut [X], start: usize, size: u8, item: F)
     requires callable { F.IsAlwaysCallable item }
     requires room { start + size ≤ length items.old }
-    ensures { (f : ℕ → X) → ((at : ℕ) (x : X) → at < size → F.post item at x → x ≡ f at) → items.new ≡ take start items.old ++ (map f (range_with_len 0 size) ++ drop (start + size) items.old) }
+    ensures {
+        (f : ℕ → X) → ((at : ℕ) (x : X) → at < size → F.post item at x → x ≡ f at) →
+        items.new ≡ with_part start size (map f (range_with_len 0 size)) items.old
+    }
 {
     for at in 0..size {
         items[start + usize::from(at)] = item(at);
@@ -80,12 +90,20 @@ pub(crate) fn write_page<B: Bound>(
     draft: &[B],
     tokens: &[u8],
 )
-    requires full { length cells.old ≡ 5184 }
-    requires whole { length places.old ≡ 512 }
+    requires full { length cells.old ≡ book_cells }
+    requires whole { length places.old ≡ book_places }
     requires within { number < 64 }
     requires few { length tokens.now ≤ 8 }
-    ensures cells { cells.new ≡ with_page 81 number (cells_of B.Bound.kind (draft_zone B.Bound.kind tokens.now draft.now)) cells.old }
-    ensures places { places.new ≡ with_page 8 number (page_places_of (draft_zone B.Bound.kind tokens.now draft.now)) places.old }
+    ensures cells {
+        cells.new ≡
+        with_page page_cells number
+        (cells_of B.Bound.kind (draft_zone B.Bound.kind tokens.now draft.now)) cells.old
+    }
+    ensures places {
+        places.new ≡
+        with_page page_places number
+        (page_places_of (draft_zone B.Bound.kind tokens.now draft.now)) places.old
+    }
 {
     let count = tokens.len() as u8;
     write_part(

@@ -1,12 +1,10 @@
-// One voucher for the first item that is due.
-ghost use Rattle.zone_pages.specs.Objections.{objection_of};
-ghost use Rattle.zone_cells.specs.Drafts.{draft_zone};
-ghost use Rattle.docket.specs.Discharging.{Advanced, Weighed, judged, voucher_read};
+// One voucher for the first item that is due, and the pages that it speaks of.
+ghost use Rattle.docket.specs.Discharging.{Advanced, Weighed, asked_zone, judged, objection_to, voucher_read};
 ghost use Rattle.docket.specs.Dockets.{world_over};
 ghost use Rattle.docket_rules.specs.Calls.{Discharges};
 ghost use Rattle.docket_rules.specs.Promise.{Promise};
-ghost use Rattle.docket_rules.specs.Tables.{pairing_of, partners_used};
-ghost use Rattle.docket_rules.specs.Worlds.{in_list, page_cells, page_of, page_places, with_book};
+ghost use Rattle.docket_rules.specs.Tables.{partners_used};
+ghost use Rattle.docket_rules.specs.Worlds.{cells_at, in_list, lent, places_at};
 ghost use Rattle.std.specs.Prelude.{◌≡◌, ◌<◌, length, slice_index};
 
 use crate::docket::Docket;
@@ -33,10 +31,10 @@ impl Docket {
         byte(&self.counts, usize::from(number))
     }
 
-    // The page with this number, and the places of its tokens.
+    /// The page with this number, and the places of its tokens.
     pub fn page<'a, 'b, B: Bound>(&self, book: &Book<'a, 'b, B>, number: u8) -> Page<'a, 'b, B>
-        ensures cells { result.cells.now ≡ page_cells (world_over self.now book.now) number }
-        ensures places { result.places.now ≡ page_places (world_over self.now book.now) number }
+        ensures cells { result.cells.now ≡ cells_at (world_over self.now book.now) number }
+        ensures places { result.places.now ≡ places_at (world_over self.now book.now) number }
         ensures few { length result.places.now < 256 }
     {
         page(book.cells, book.places, number, self.token_count(number))
@@ -48,7 +46,7 @@ impl Docket {
         (1..=self.listed()).contains(&zone)
     }
 
-    // How many partners a voucher uses: all, where its zone is not listed.
+    /// How many partners a voucher uses: all, where its zone is not listed.
     pub fn partners_used(&self, voucher: &Voucher) -> u8
         ensures { result ≡ partners_used self.now voucher.now }
     {
@@ -76,7 +74,11 @@ impl Docket {
         asked: Asked<'_, '_, B>,
         voucher: &Voucher,
     ) -> Result<(), Objection>
-        ensures { result ≡ objection_of B.Bound.kind (page_of B.Bound.kind (world_over self.now book.now) voucher.now.zone) (draft_zone B.Bound.kind asked.entry.places.now asked.entry.cells.now) (pairing_of self.now voucher.now) }
+        ensures {
+            result ≡
+            objection_to B.Bound.kind (world_over self.now book.now) voucher.now
+            (asked_zone B.Bound.kind asked.entry)
+        }
     {
         let tokens = usize::from(self.token_count(voucher.zone));
         let claim = Claim {
@@ -95,7 +97,9 @@ impl Docket {
         asked: Option<Tokens>,
         voucher: &Voucher,
     ) -> Result<(), CallRefusal>
-        ensures { result ≡ judged B.Bound.kind (world_over self.now book.now) voucher.now draft.now asked }
+        ensures {
+            result ≡ judged B.Bound.kind (world_over self.now book.now) voucher.now draft.now asked
+        }
     {
         match (voucher.void, asked) {
             (true, None) => Ok(()),
@@ -121,7 +125,10 @@ impl Docket {
         bytes: &[u8],
         item: Item,
     ) -> Result<(), CallRefusal>
-        ensures { Weighed B.Bound.kind (N.NetStore.net store.now) (world_over self.now book.now) bytes.now item scratch.old scratch.new result }
+        ensures {
+            Weighed B.Bound.kind (N.NetStore.net store.now) (world_over self.now book.now)
+            bytes.now item scratch.old scratch.new result
+        }
     {
         let voucher = self.read_voucher(bytes)?;
         let asked = item_zone(store, &self.page(book, item.zone), item, scratch);
@@ -129,7 +136,10 @@ impl Docket {
     }
 
     fn advance<B: Bound, N: NetStore<B>>(&mut self, store: &N, book: &Book<'_, '_, B>, item: Item)
-        ensures { Advanced B.Bound.kind (N.NetStore.net store.now) (world_over self.old book.now) item self.new }
+        ensures {
+            Advanced B.Bound.kind (N.NetStore.net store.now) (world_over self.old book.now) item
+            self.new
+        }
     {
         let places = self.page(book, item.zone).places;
         self.stage = match next_due(store, self.listed(), places, item) {
@@ -148,7 +158,10 @@ impl Docket {
         scratch: &mut [B],
         voucher: &[u8],
     ) -> Result<(), CallRefusal>
-        ensures { Discharges B.Bound.kind (N.NetStore.net store.now) voucher.now scratch.old scratch.new (with_book self.old cells.now places.now) (with_book self.new cells.now places.now) result }
+        ensures {
+            Discharges B.Bound.kind (N.NetStore.net store.now) voucher.now
+            (lent self.old cells.now places.now scratch.old) self.new scratch.new result
+        }
     {
         let Stage::Proving(item) = self.stage else {
             return Err(CallRefusal::WrongStage);
@@ -164,8 +177,8 @@ impl Docket {
         Ok(())
     }
 
-    // Takes a voucher for the first item that is due; the last one seals. What it ensures besides is what is promised of every list of
-    // calls from a blank docket over a lawful store.
+    /// Takes a voucher for the first item that is due; the last one seals. What it ensures besides is
+    /// what is promised of every list of calls from a blank docket over a lawful store.
     pub fn discharge<B: Bound, N: NetStore<B>>(
         &mut self,
         store: &N,
@@ -174,7 +187,10 @@ impl Docket {
         scratch: &mut [B],
         voucher: &[u8],
     ) -> Result<(), CallRefusal>
-        ensures step { Discharges B.Bound.kind (N.NetStore.net store.now) voucher.now scratch.old scratch.new (with_book self.old cells.now places.now) (with_book self.new cells.now places.now) result }
+        ensures step {
+            Discharges B.Bound.kind (N.NetStore.net store.now) voucher.now
+            (lent self.old cells.now places.now scratch.old) self.new scratch.new result
+        }
         ensures promise { Promise B.Bound.kind (N.NetStore.net store.now) }
     {
         store.keeps_limits();

@@ -1,12 +1,14 @@
 // Opening: the initial marking, and the target on page 0.
-ghost use Rattle.docket.specs.Dockets.{Tried};
+ghost use Rattle.docket.specs.Dockets.{OpenAnswers, TriesOpen};
 ghost use Rattle.docket.specs.Gathered.{gathered};
 ghost use Rattle.docket_records.specs.ZoneRecords.{zone_of};
-ghost use Rattle.docket_rules.specs.Calls.{Opened, Opens, initial_tokens};
-ghost use Rattle.docket_rules.specs.Tables.{initial_rows, record_rows, too_old};
-ghost use Rattle.docket_rules.specs.Worlds.{with_book};
+ghost use Rattle.docket_refusals.specs.declared.refusal.CallRefusal.{CallRefusal as Refused};
+ghost use Rattle.docket_rules.specs.Calls.{Left, Opened};
+ghost use Rattle.docket_rules.specs.Tables.{given, initial_tokens, too_old};
+ghost use Rattle.docket_rules.specs.Worlds.{book_cells, book_places, lent, with_book};
 ghost use Rattle.std.specs.List.{list_any};
-ghost use Rattle.std.specs.Prelude.{◌≡◌, ◌≤◌, ◌++◌, length, nat_le};
+ghost use Rattle.std.specs.Prelude.{◌≡◌, ◌≤◌, Err, Ok, length, nat_le};
+ghost use Rattle.zone_cells.specs.Sizes.{draft_cells};
 
 use crate::docket::Docket;
 use crate::memory::{is_whole, write_page};
@@ -25,11 +27,12 @@ const MOST_INITIAL: usize = 8;
 // The largest age of an initial token, of 15 bits.
 const LARGEST_AGE: u16 = 32767;
 
-// A token for each place, of the age that stands with it. The ages by number: a loop over both by `zip` did not prove.
+// A token for each place, of the age that stands with it. The ages by number: a loop over both by
+// `zip` did not prove.
 fn paired(places: &[u8], ages: &[u16]) -> InitialTokens
     requires few { length places.now ≤ 8 }
     requires even { length ages.now ≡ length places.now }
-    ensures { result.items ≡ initial_tokens places.now ages.now }
+    ensures { result.items ≡ initial_tokens (given places.now ages.now) }
 {
     let mut tokens = InitialTokens::new();
     for place in places {
@@ -54,7 +57,7 @@ fn some_outside(net_places: u8, places: &[u8]) -> bool
 // The initial tokens of a net of so many places, or what is wrong with them, lowest number first.
 fn gather(net_places: u8, places: &[u8], ages: &[u16]) -> Result<InitialTokens, EntryRefusal>
     requires { length ages.now ≡ length places.now }
-    ensures { result ≡ gathered net_places places.now ages.now }
+    ensures { result ≡ gathered net_places (given places.now ages.now) }
 {
     if MOST_INITIAL < places.len() || some_too_old(ages) {
         return Err(EntryRefusal::TooMany);
@@ -73,18 +76,22 @@ impl Docket {
         cells: &mut [B],
         places: &mut [u8],
         draft: &mut [B],
-        initial_places: &[u8],
-        initial_ages: &[u16],
+        initial: &[u8],
+        ages: &[u16],
         target: &[u8],
     ) -> Result<(), CallRefusal>
-        requires full { length cells.old ≡ 5184 }
-        requires whole { length places.old ≡ 512 }
-        requires drafted { length draft.old ≡ 169 }
-        requires even { length initial_ages.now ≡ length initial_places.now }
+        requires full { length cells.old ≡ book_cells }
+        requires whole { length places.old ≡ book_places }
+        requires drafted { length draft.old ≡ draft_cells }
+        requires even { length ages.now ≡ length initial.now }
         ensures kept { length draft.new ≡ length draft.old }
-        ensures tried { Tried (initial_rows net_places initial_places.now initial_ages.now ++ record_rows B.Bound.kind net_places target.now) (Opened B.Bound.kind initial_places.now initial_ages.now (zone_of B.Bound.kind target.now) (with_book self.old cells.old places.old) (with_book self.new cells.new places.new)) (with_book self.old cells.old places.old) (with_book self.new cells.new places.new) result }
+        ensures tried {
+            TriesOpen B.Bound.kind net_places (given initial.now ages.now) target.now
+            (with_book self.old cells.old places.old) (with_book self.new cells.new places.new)
+            result
+        }
     {
-        let initial = gather(net_places, initial_places, initial_ages)?;
+        let initial = gather(net_places, initial, ages)?;
         let tokens = read_zone(target, net_places, draft)?;
         write_page(cells, places, 0, draft, &tokens);
         self.stage = Stage::Listing;
@@ -95,35 +102,41 @@ impl Docket {
         Ok(())
     }
 
-    // Opens a blank docket: an initial token for each place with its age, and the record of the target.
+    /// Opens a blank docket: the places of the initial tokens with an age for each, and the record of
+    /// the target.
     pub fn open<B: Bound, N: NetStore<B>>(
         &mut self,
         store: &N,
         cells: &mut [B],
         places: &mut [u8],
         scratch: &mut [B],
-        initial_places: &[u8],
-        initial_ages: &[u16],
+        initial: &[u8],
+        ages: &[u16],
         target: &[u8],
     ) -> Result<(), CallRefusal>
-        ensures { Opens B.Bound.kind (N.NetStore.net store.now) initial_places.now initial_ages.now target.now scratch.old scratch.new (with_book self.old cells.old places.old) (with_book self.new cells.new places.new) result }
+        ensures answers {
+            OpenAnswers B.Bound.kind (N.NetStore.net store.now) (given initial.now ages.now)
+            target.now (lent self.old cells.old places.old scratch.old) result
+        }
+        ensures scratch { Left B.Bound.kind result scratch.old scratch.new }
+        ensures refused {
+            (r : Refused) → result ≡ Err r →
+            with_book self.new cells.new places.new ≡ with_book self.old cells.old places.old
+        }
+        ensures taken {
+            result ≡ Ok tt →
+            Opened B.Bound.kind (given initial.now ages.now) (zone_of B.Bound.kind target.now)
+            (with_book self.old cells.old places.old) (with_book self.new cells.new places.new)
+        }
     {
         if self.stage != Stage::Blank {
             return Err(CallRefusal::WrongStage);
         }
-        if !is_whole(cells, places, scratch) || initial_places.len() != initial_ages.len() {
+        if !is_whole(cells, places, scratch) || initial.len() != ages.len() {
             return Err(CallRefusal::WrongMemory);
         }
         let net_places = store.places();
-        let result = self.begin(
-            net_places,
-            cells,
-            places,
-            scratch,
-            initial_places,
-            initial_ages,
-            target,
-        );
+        let result = self.begin(net_places, cells, places, scratch, initial, ages, target);
         wipe(scratch);
         result
     }

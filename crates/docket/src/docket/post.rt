@@ -1,14 +1,10 @@
 // Posting a listed zone.
-ghost use Rattle.docket.specs.Dockets.{Tried};
-ghost use Rattle.docket_records.specs.ZoneRecords.{zone_of};
-ghost use Rattle.zone_markings.specs.Initial.{marking_of};
-ghost use Rattle.docket_refusals.specs.declared.refusal.CallRefusal.TheVariants.{Covered};
-ghost use Rattle.docket_rules.specs.Calls.{Posted, Posts};
-ghost use Rattle.docket_rules.specs.Tables.{record_rows, row};
-ghost use Rattle.docket_rules.specs.Worlds.{with_book};
+ghost use Rattle.docket.specs.Dockets.{TriesPost};
+ghost use Rattle.docket_rules.specs.Calls.{Posts};
+ghost use Rattle.docket_rules.specs.Worlds.{book_cells, book_places, lent, with_book};
 ghost use Rattle.docket_rules.specs.declared.stage.Stage.TheVariants.{Listing};
-ghost use Rattle.std.specs.Prelude.{◌≡◌, ◌<◌, [], ◌∷◌, ◌++◌, length};
-ghost use Rattle.zones.specs.Zones.{Satisfies};
+ghost use Rattle.std.specs.Prelude.{◌≡◌, ◌<◌, length};
+ghost use Rattle.zone_cells.specs.Sizes.{draft_cells};
 
 use crate::docket::Docket;
 use crate::memory::{is_whole, write_page};
@@ -21,7 +17,8 @@ use zone_pages::wipe;
 use zone_reading::read_zone;
 
 impl Docket {
-    // The record's zone on the next page, where it is well formed and the initial marking does not satisfy it.
+    // The record's zone on the next page, where it is well formed and the initial marking does not
+    // satisfy it.
     fn list<B: Bound>(
         &mut self,
         net_places: u8,
@@ -32,11 +29,15 @@ impl Docket {
     ) -> Result<(), CallRefusal>
         requires listing { self.old.stage ≡ Listing }
         requires room { length self.old.counts < 64 }
-        requires full { length cells.old ≡ 5184 }
-        requires whole { length places.old ≡ 512 }
-        requires drafted { length draft.old ≡ 169 }
+        requires full { length cells.old ≡ book_cells }
+        requires whole { length places.old ≡ book_places }
+        requires drafted { length draft.old ≡ draft_cells }
         ensures kept { length draft.new ≡ length draft.old }
-        ensures tried { Tried (record_rows B.Bound.kind net_places zone.now ++ row Covered (Satisfies B.Bound.kind 1 (zone_of B.Bound.kind zone.now) (marking_of self.old.initial)) ∷ []) (Posted B.Bound.kind (zone_of B.Bound.kind zone.now) (with_book self.old cells.old places.old) (with_book self.new cells.new places.new)) (with_book self.old cells.old places.old) (with_book self.new cells.new places.new) result }
+        ensures tried {
+            TriesPost B.Bound.kind net_places zone.now
+            (with_book self.old cells.old places.old) (with_book self.new cells.new places.new)
+            result
+        }
     {
         let tokens = read_zone(zone, net_places, draft)?;
         if satisfies(&self.initial, draft, &tokens) {
@@ -48,7 +49,7 @@ impl Docket {
         Ok(())
     }
 
-    // Lists the record's zone.
+    /// Lists the record's zone.
     pub fn post<B: Bound, N: NetStore<B>>(
         &mut self,
         store: &N,
@@ -57,7 +58,11 @@ impl Docket {
         scratch: &mut [B],
         zone: &[u8],
     ) -> Result<(), CallRefusal>
-        ensures { Posts B.Bound.kind (N.NetStore.net store.now) zone.now scratch.old scratch.new (with_book self.old cells.old places.old) (with_book self.new cells.new places.new) result }
+        ensures {
+            Posts B.Bound.kind (N.NetStore.net store.now) zone.now
+            (lent self.old cells.old places.old scratch.old)
+            (lent self.new cells.new places.new scratch.new) result
+        }
     {
         if self.stage != Stage::Listing {
             return Err(CallRefusal::WrongStage);

@@ -4,7 +4,6 @@ use Rattle.zone_cells.specs.Drafts.{draft_zone}
 use Rattle.docket_records.specs.ZoneRecords.{zone_of}
 use Rattle.zone_markings.specs.Initial.{marking_of}
 use Rattle.docket_refusals.specs.declared.refusal.CallRefusal.TheVariants.{Covered}
-use Rattle.docket_rules.specs.Calls.{with_page, cells_of, page_places_of}
 use Rattle.docket_rules.specs.Tables.{row}
 use Rattle.docket_rules.specs.declared.stage.Stage.TheVariants.{Listing}
 use Rattle.zones.specs.Zones.{Satisfies}
@@ -15,14 +14,15 @@ use Rattle.docket.proofs.docket.Docket.list.Goals as goal
 pub returns-then-satisfies-clause-tried : goal.returns-then-satisfies-clause-tried
 returns-then-satisfies-clause-tried g c =
     let kind = g.B.Bound.kind in
+    let zone = c.args.zone.now in
     let m = marking_of c.self.inside.initial.items in
     let tokens = c.in_ok-tokens.tokens in
     let draft = c.read_zone.new.cells in
-    let h = recorded kind c.args.net_places c.args.zone.now (row Covered (Satisfies kind 1 (zone_of kind c.args.zone.now) m) ∷ []) c.args.draft.now draft (Ok tokens) c.requires.drafted c.in_ok-tokens.ensures.answer in
+    let h = recorded kind c.args.net_places zone (row Covered (Satisfies kind 1 (zone_of kind zone) m) ∷ []) c.args.draft.now draft (Ok tokens) c.requires.drafted c.in_ok-tokens.ensures.answer in
     let s = subst (λ ps. Satisfies kind 1 (draft_zone kind ps draft) m) c.deref.ensures.0 (c.satisfies.ensures.0 c.if-satisfies.true) in
     rw (← c.self.view_is)
     (record {
-      answers = h.passes (Err Covered) (inl (zone_covers kind c.args.zone.now draft tokens.items h.formed h.places m s, refl));
+      answers = h.passes (Err Covered) (inl (zone_covers kind zone draft tokens.items h.formed h.places m s, refl));
       refused = λ r e. refl;
       taken = λ e. not_taken Covered e;
     })
@@ -35,7 +35,6 @@ returns-clause-tried g c =
     let tokens = c.in_ok-tokens.tokens in
     let draft = c.read_zone.new.cells in
     let z = zone_of kind c.args.zone.now in
-    let form = draft_zone kind tokens.items draft in
     let h = recorded kind c.args.net_places c.args.zone.now (row Covered (Satisfies kind 1 z m) ∷ []) c.args.draft.now draft (Ok tokens) c.requires.drafted c.in_ok-tokens.ensures.answer in
     let apart = λ (s : Satisfies kind 1 z m).
     false≢true (sym c.if-satisfies.false ∙ c.satisfies.ensures.1 (subst (λ ps. Satisfies kind 1 (draft_zone kind ps draft) m) (sym c.deref.ensures.0) (form_covers kind z draft tokens.items h.formed h.places m s))) in
@@ -49,8 +48,6 @@ returns-clause-tried g c =
             state =
                 ap (λ stage. record { stage = stage; initial = self.initial.items; counts = c.push.new.self.items; taken = self.taken }) (ap (λ s. s.stage) c.self.view_is ∙ c.requires.listing)
                 ∙ ap (λ counts. record { stage = Listing; initial = self.initial.items; counts = counts; taken = self.taken }) counted;
-            page = page_written kind z draft tokens.items h.formed h.places (length self.counts.items) _ _
-                (c.write_page.ensures.cells ∙ ap (λ ps. with_page 81 c.len-number.result (cells_of kind (draft_zone kind ps draft)) c.args.cells.now) c.deref-2.ensures.0 ∙ ap (λ p. with_page 81 p (cells_of kind form) c.args.cells.now) c.len-number.ensures.value)
-                (c.write_page.ensures.places ∙ ap (λ ps. with_page 8 c.len-number.result (page_places_of (draft_zone kind ps draft)) c.args.places.now) c.deref-2.ensures.0 ∙ ap (λ p. with_page 8 p (page_places_of form) c.args.places.now) c.len-number.ensures.value);
+            page = page_written kind z draft tokens.items h.formed h.places (length self.counts.items) c.len-number.result _ _ _ c.len-number.ensures.value c.deref-2.ensures.0 c.write_page.ensures.cells c.write_page.ensures.places;
           };
     })

@@ -1,4 +1,4 @@
--- Initial tokens that were gathered: what they are refused for. Assumes nothing.
+-- Initial tokens that were gathered: what they are refused for.
 use Rattle.std.proofs.Common.{◌≡◌, ℕ, Bool, true, false, cond, ◌||◌, List, ◌∷◌, ◌++◌, length, leb, ltb, Ok, Err, Result, refl, inl, inr}
 use Rattle.std.proofs.lemmas.Bool.{false≢true}
 use Rattle.std.specs.List.{list_any}
@@ -7,8 +7,7 @@ use Rattle.docket_records.specs.declared.fault.EntryRefusal.{EntryRefusal}
 use Rattle.docket_records.specs.declared.fault.EntryRefusal.TheVariants.{TooMany, NoSuchPlace}
 use Rattle.docket_records.specs.declared.token.InitialToken.{InitialToken}
 use Rattle.docket_refusals.specs.declared.refusal.CallRefusal.TheVariants.{Entry}
-use Rattle.docket_rules.specs.Calls.{initial_tokens}
-use Rattle.docket_rules.specs.Tables.{Answer, Answers, Row, initial_rows, row, too_old}
+use Rattle.docket_rules.specs.Tables.{Answer, Answers, Given, Row, initial_rows, initial_tokens, row, too_old}
 use Rattle.docket.specs.Gathered.{gathered}
 
 abbrev two_rows : (many outside : Bool) (rest : List Row) → List Row
@@ -27,8 +26,8 @@ gives true outside rest tokens = inl (refl, refl)
 gives false true rest tokens = inr (no, inl (refl, refl))
 gives false false rest tokens = (refl, λ answer h. inr (no, inr (no, h)))
 
-abbrev pub Given : (net_places : ℕ) (places ages : List ℕ) (rest : List Row) → Result (ArrayVec InitialToken) EntryRefusal → Type 0
-Given net_places places ages rest result = Gives (initial_rows net_places places ages ++ rest) rest (initial_tokens places ages) result
+abbrev pub GatheredBy : (net_places : ℕ) (g : Given) (rest : List Row) → Result (ArrayVec InitialToken) EntryRefusal → Type 0
+GatheredBy net_places g rest result = Gives (initial_rows net_places g ++ rest) rest (initial_tokens g) result
 
-pub given : (net_places : ℕ) (places ages : List ℕ) (rest : List Row) → Given net_places places ages rest (gathered net_places places ages)
-given net_places places ages rest = gives (ltb 8 (length places) || list_any too_old ages) (list_any (leb net_places) places) rest (initial_tokens places ages)
+pub gathered_by : (net_places : ℕ) (g : Given) (rest : List Row) → GatheredBy net_places g rest (gathered net_places g)
+gathered_by net_places g rest = gives (ltb 8 (length g.places) || list_any too_old g.ages) (list_any (leb net_places) g.places) rest (initial_tokens g)

@@ -11,7 +11,7 @@ use Rattle.docket_rules.specs.Tables.{Answer, Answers, Given, Row, initial_rows,
 use Rattle.docket.specs.Gathered.{gathered}
 
 abbrev two_rows : (many outside : Bool) (rest : List Row) → List Row
-two_rows many outside rest = row (Entry TooMany) (many ≡ true) ∷ row (Entry NoSuchPlace) (outside ≡ true) ∷ rest
+two_rows many outside rest = row 22 (many ≡ true) ∷ row 23 (outside ≡ true) ∷ rest
 
 -- a refusal answers, and tokens leave it to the rest of the rows
 abbrev Gives : (rows rest : List Row) (tokens : List InitialToken) → Result (ArrayVec InitialToken) EntryRefusal → Type 0

@@ -85,7 +85,7 @@ module _ {B : Type 0} (kind : Kind B) (net : Net B) (w : World B) (d : Item) (v 
     other r o is apart h = apart (ap number_of (sym is ∙ against_it o h.1))
 
     abbrev objection_row : Objection → Row
-    objection_row o = row (Objected o) ((v.void ≡ false) × Against kind net w.state (page_of kind w) d v o)
+    objection_row o = row (objection_number o) ((v.void ≡ false) × Against kind net w.state (page_of kind w) d v o)
 
     objection_answers : v.void ≡ false → (r : Tried) → stands ≡ r → Answers (objection_row Partner ∷ (objection_row Place ∷ (objection_row Bound ∷ []))) (objected r)
     objection_answers named (Err Partner) is = inl ((named, record { asked = asked; asks = asks; stands = is }), refl)

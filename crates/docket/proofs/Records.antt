@@ -8,13 +8,13 @@ use Rattle.zone_cells.specs.Loading.{DraftFormed}
 use Rattle.zone_cells.specs.Sizes.{draft_cells, page_cells, page_places}
 use Rattle.docket_records.specs.ZoneRecords.{mark_under_plain, no_such_place, not_zero, too_many, wrong_length, zone_fault, zone_of}
 use Rattle.docket_records.specs.declared.fault.EntryRefusal.{EntryRefusal}
-use Rattle.docket_records.specs.declared.fault.EntryRefusal.TheVariants.{WrongLength, NotZero, TooMany, NoSuchPlace, MarkUnderPlain, Inconsistent as NotConsistent}
+use Rattle.docket_records.specs.declared.fault.EntryRefusal.TheVariants.{WrongLength, NotZero, TooMany, NoSuchPlace, MarkUnderPlain}
 use Rattle.docket_records.proofs.Sizes.{zone_small}
 use Rattle.nets.specs.Markings.{Marking}
 use Rattle.zone_reading.specs.Readings.{Read}
 use Rattle.docket_refusals.specs.declared.refusal.CallRefusal.TheVariants.{Entry}
 use Rattle.docket_rules.specs.Calls.{PageFormed, PageWritten, cells_of, page_places_of, with_page}
-use Rattle.docket_rules.specs.Tables.{Answer, Answers, Row, record_rows, row}
+use Rattle.docket_rules.specs.Tables.{Answer, Answers, Row, number_of, record_rows, row}
 use Rattle.docket_rules.specs.Worlds.{World}
 use Rattle.zones.proofs.ZoneLaws.{zones_keep_laws}
 use Rattle.zones.specs.Zones.{Zone, Inconsistent, NormalOf, Satisfies}
@@ -25,11 +25,11 @@ tests a b c d e = cond a (Some WrongLength) (cond b (Some NotZero) (cond c (Some
 
 abbrev tested_rows : (a b c d e : Bool) (last : List Row) → List Row
 tested_rows a b c d e last =
-    row (Entry WrongLength) (a ≡ true)
-    ∷ row (Entry NotZero) (b ≡ true)
-    ∷ row (Entry TooMany) (c ≡ true)
-    ∷ row (Entry NoSuchPlace) (d ≡ true)
-    ∷ row (Entry MarkUnderPlain) (e ≡ true)
+    row 20 (a ≡ true)
+    ∷ row 21 (b ≡ true)
+    ∷ row 22 (c ≡ true)
+    ∷ row 23 (d ≡ true)
+    ∷ row 24 (e ≡ true)
     ∷ last
 
 -- a fault is the answer; with none, the last rows answer
@@ -66,11 +66,11 @@ module _ {B : Type 0} (kind : Kind B) (net_places : ℕ) (bytes : List ℕ) (res
   Recorded draft (Ok tokens) = RecordTaken draft tokens.items
 
   abbrev last : List Row
-  last = row (Entry NotConsistent) (Inconsistent kind z) ∷ rest
+  last = row 25 (Inconsistent kind z) ∷ rest
 
   recorded_as : (before after : List B) (result : Result (ArrayVec ℕ) EntryRefusal) → length before ≡ draft_cells → Read kind net_places bytes before after result → (fault : Option EntryRefusal) → zone_fault kind.marks net_places bytes ≡ fault → Found rows last fault → Recorded after result
   recorded_as before after result full read (Some r) is h = subst (Recorded after) (sym (read.refused r is).answer) h
-  recorded_as before after (Err r) full read None is h = h (Err (Entry r)) (inl (read.settled is full, ap (λ e. Err (Entry e)) (read.taken is)))
+  recorded_as before after (Err r) full read None is h = h (Err (Entry r)) (inl (read.settled is full, ap (λ e. number_of (Err (Entry e))) (read.taken is)))
   recorded_as before after (Ok tokens) full read None is h =
       let formed = read.settled is full in
       record {

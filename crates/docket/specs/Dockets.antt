@@ -5,7 +5,6 @@ use Rattle.bounds.specs.Kinds.{Kind}
 use Rattle.nets.specs.Nets.{Net}
 use Rattle.docket_records.specs.ZoneRecords.{zone_of}
 use Rattle.docket_refusals.specs.declared.refusal.CallRefusal.{CallRefusal}
-use Rattle.docket_refusals.specs.declared.refusal.CallRefusal.TheVariants.{Covered}
 use Rattle.docket_rules.specs.Calls.{Opened, Posted}
 use Rattle.docket_rules.specs.Tables.{
   Answer,
@@ -58,7 +57,7 @@ TriesOpen kind net_places g target before after answer =
 abbrev pub zone_rows : {B : Type 0} → Kind B → (net_places : ℕ) → (zone : List ℕ) → State → List Row
 zone_rows kind net_places zone s =
     record_rows kind net_places zone
-    ++ row Covered (Satisfies kind 1 (zone_of kind zone) (marking_of s.initial)) ∷ []
+    ++ row 26 (Satisfies kind 1 (zone_of kind zone) (marking_of s.initial)) ∷ []
 
 abbrev pub TriesPost : {B : Type 0} → Kind B → (net_places : ℕ) → (zone : List ℕ) → World B → World B → Answer → Type 0
 TriesPost kind net_places zone before after answer =

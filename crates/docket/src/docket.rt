@@ -38,11 +38,12 @@ impl Model for Docket {
 
     ghost Value = { State };
 
-    ghost view = {
-        λ d. record {
-        stage = d.stage; initial = d.initial.items; counts = d.counts.items; taken = d.taken
-        }
-    };
+    ghost view = { λ d. record {
+      stage = d.stage;
+      initial = d.initial.items;
+      counts = d.counts.items;
+      taken = d.taken;
+    } };
 }
 
 impl Docket {

@@ -1,4 +1,4 @@
-// Memory that a call is lent: whether it is whole, and the pages of the book.
+// Memory that a call is lent: whether it is whole, and a page of the book written.
 ghost use Rattle.docket.specs.Dockets.{with_part};
 ghost use Rattle.zone_cells.specs.Cells.{in_draft};
 ghost use Rattle.zone_cells.specs.Drafts.{draft_zone};
@@ -11,57 +11,29 @@ ghost use Rattle.std.specs.Prelude.{◌≡◌, ◌==◌, ◌&&◌, ◌+◌, ◌*
 use bounds::Bound;
 use zone_drafts::bytes::byte;
 use zone_drafts::draft::{DRAFT_CELLS, bound_at};
-use zone_pages::Page;
+use zone_pages::book::{PAGE_CELLS, PAGE_PLACES};
 
-/// 64 pages of 81 cells.
-pub const BOOK_CELLS: usize = 5184;
+/// How many cells the book has, of 64 pages.
+pub const BOOK_CELLS: usize = 64 * PAGE_CELLS;
 
-/// Eight to a page.
-pub const BOOK_PLACES: usize = 512;
+/// How many places the book has.
+pub const BOOK_PLACES: usize = 64 * PAGE_PLACES;
 
 // Whether the book and the scratch page have the stated lengths.
 pub(crate) fn is_whole<B: Bound>(cells: &[B], places: &[u8], scratch: &[B]) -> bool
-    ensures {
-        result ≡
+    ensures { result ≡
         ((length cells.now == book_cells && length places.now == book_places) &&
-        length scratch.now == draft_cells)
-    }
+        length scratch.now == draft_cells) }
 {
     cells.len() == BOOK_CELLS && places.len() == BOOK_PLACES && scratch.len() == DRAFT_CELLS
-}
-
-// So many items from a start on; what lies past the end is none.
-fn part<X>(items: &[X], start: usize, size: usize) -> &[X]
-    ensures { result.now ≡ take size (drop start items.now) }
-{
-    let later = items.get(start..).unwrap_or(&[]);
-    later.get(..size).unwrap_or(later)
-}
-
-// The page with this number, of so many tokens.
-pub(crate) fn page<'a, 'b, B: Bound>(
-    cells: &'a [B],
-    places: &'b [u8],
-    number: u8,
-    tokens: u8,
-) -> Page<'a, 'b, B>
-    ensures cells { result.cells.now ≡ take page_cells (drop (page_cells * number) cells.now) }
-    ensures places { result.places.now ≡ take tokens (drop (page_places * number) places.now) }
-{
-    Page {
-        cells: part(cells, 81 * usize::from(number), 81),
-        places: part(places, 8 * usize::from(number), usize::from(tokens)),
-    }
 }
 
 // Writes so many items from a start on: each is what the closure answers of its number.
 fn write_part<X: Copy, F: Fn(u8) -> X>(items: &mut [X], start: usize, size: u8, item: F)
     requires callable { F.IsAlwaysCallable item }
     requires room { start + size ≤ length items.old }
-    ensures {
-        (f : ℕ → X) → ((at : ℕ) (x : X) → at < size → F.post item at x → x ≡ f at) →
-        items.new ≡ with_part start size (map f (range_with_len 0 size)) items.old
-    }
+    ensures { (f : ℕ → X) → ((at : ℕ) (x : X) → at < size → F.post item at x → x ≡ f at) →
+        items.new ≡ with_part start size (map f (range_with_len 0 size)) items.old }
 {
     for at in 0..size {
         items[start + usize::from(at)] = item(at);
@@ -94,28 +66,24 @@ pub(crate) fn write_page<B: Bound>(
     requires whole { length places.old ≡ book_places }
     requires within { number < 64 }
     requires few { length tokens.now ≤ 8 }
-    ensures cells {
-        cells.new ≡
+    ensures cells { cells.new ≡
         with_page page_cells number
-        (cells_of B.Bound.kind (draft_zone B.Bound.kind tokens.now draft.now)) cells.old
-    }
-    ensures places {
-        places.new ≡
+        (cells_of B.Bound.kind (draft_zone B.Bound.kind tokens.now draft.now)) cells.old }
+    ensures places { places.new ≡
         with_page page_places number
-        (page_places_of (draft_zone B.Bound.kind tokens.now draft.now)) places.old
-    }
+        (page_places_of (draft_zone B.Bound.kind tokens.now draft.now)) places.old }
 {
     let count = tokens.len() as u8;
     write_part(
         cells,
-        81 * usize::from(number),
-        81,
+        PAGE_CELLS * usize::from(number),
+        PAGE_CELLS as u8,
         |at| page_cell(draft, count, at),
     );
     write_part(
         places,
-        8 * usize::from(number),
-        8,
+        PAGE_PLACES * usize::from(number),
+        PAGE_PLACES as u8,
         |at| byte(tokens, usize::from(at)),
     );
 }

@@ -22,7 +22,7 @@ fn page_tokens(places: &[u8]) -> Tokens
 // Makes it from the page of the item's zone. Answers its tokens, or none where the item is void.
 pub fn item_zone<B: Bound, N: NetStore<B>>(
     store: &N,
-    page: &Page<'_, '_, B>,
+    page: &Page<'_, B>,
     item: Item,
     draft: &mut [B],
 ) -> Option<Tokens>

@@ -8,7 +8,7 @@ ghost use Rattle.docket_rules.specs.Worlds.{cells_at, in_list, lent, places_at};
 ghost use Rattle.std.specs.Prelude.{◌≡◌, ◌<◌, length, slice_index};
 
 use crate::docket::Docket;
-use crate::memory::{is_whole, page};
+use crate::memory::is_whole;
 use bounds::Bound;
 use docket_dues::Item;
 use docket_items::{item_zone, next_due};
@@ -32,12 +32,12 @@ impl Docket {
     }
 
     /// The page with this number, and the places of its tokens.
-    pub fn page<'a, 'b, B: Bound>(&self, book: &Book<'a, 'b, B>, number: u8) -> Page<'a, 'b, B>
+    pub fn page<'a, B: Bound>(&self, book: &Book<'a, B>, number: u8) -> Page<'a, B>
         ensures cells { result.cells.now ≡ cells_at (world_over self.now book.now) number }
         ensures places { result.places.now ≡ places_at (world_over self.now book.now) number }
         ensures few { length result.places.now < 256 }
     {
-        page(book.cells, book.places, number, self.token_count(number))
+        book.page(number, self.token_count(number))
     }
 
     fn is_listed(&self, zone: u8) -> bool
@@ -70,20 +70,18 @@ impl Docket {
     // What stands against the zone that the voucher names.
     fn objection<B: Bound>(
         &self,
-        book: &Book<'_, '_, B>,
-        asked: Asked<'_, '_, B>,
+        book: &Book<'_, B>,
+        asked: Asked<'_, B>,
         voucher: &Voucher,
     ) -> Result<(), Objection>
-        ensures {
-            result ≡
+        ensures { result ≡
             objection_to B.Bound.kind (world_over self.now book.now) voucher.now
-            (asked_zone B.Bound.kind asked.entry)
-        }
+            (asked_zone B.Bound.kind asked.entry) }
     {
         let tokens = usize::from(self.token_count(voucher.zone));
         let claim = Claim {
             page: self.page(book, voucher.zone),
-            item: asked,
+            asked,
             pairing: voucher.partners.get(..tokens).unwrap_or(&voucher.partners),
         };
         claim.check()
@@ -92,14 +90,12 @@ impl Docket {
     // The draft has the zone that the item asks for, of these tokens; it is void where there are none.
     fn judge<B: Bound>(
         &self,
-        book: &Book<'_, '_, B>,
+        book: &Book<'_, B>,
         draft: &[B],
         asked: Option<Tokens>,
         voucher: &Voucher,
     ) -> Result<(), CallRefusal>
-        ensures {
-            result ≡ judged B.Bound.kind (world_over self.now book.now) voucher.now draft.now asked
-        }
+        ensures { result ≡ judged B.Bound.kind (world_over self.now book.now) voucher.now draft.now asked }
     {
         match (voucher.void, asked) {
             (true, None) => Ok(()),
@@ -120,26 +116,22 @@ impl Docket {
     fn weigh<B: Bound, N: NetStore<B>>(
         &self,
         store: &N,
-        book: &Book<'_, '_, B>,
+        book: &Book<'_, B>,
         scratch: &mut [B],
         bytes: &[u8],
         item: Item,
     ) -> Result<(), CallRefusal>
-        ensures {
-            Weighed B.Bound.kind (N.NetStore.net store.now) (world_over self.now book.now)
-            bytes.now item scratch.old scratch.new result
-        }
+        ensures { Weighed B.Bound.kind (N.NetStore.net store.now) (world_over self.now book.now)
+            bytes.now item scratch.old scratch.new result }
     {
         let voucher = self.read_voucher(bytes)?;
         let asked = item_zone(store, &self.page(book, item.zone), item, scratch);
         self.judge(book, scratch, asked, &voucher)
     }
 
-    fn advance<B: Bound, N: NetStore<B>>(&mut self, store: &N, book: &Book<'_, '_, B>, item: Item)
-        ensures {
-            Advanced B.Bound.kind (N.NetStore.net store.now) (world_over self.old book.now) item
-            self.new
-        }
+    fn advance<B: Bound, N: NetStore<B>>(&mut self, store: &N, book: &Book<'_, B>, item: Item)
+        ensures { Advanced B.Bound.kind (N.NetStore.net store.now) (world_over self.old book.now) item
+            self.new }
     {
         let places = self.page(book, item.zone).places;
         self.stage = match next_due(store, self.listed(), places, item) {
@@ -158,10 +150,8 @@ impl Docket {
         scratch: &mut [B],
         voucher: &[u8],
     ) -> Result<(), CallRefusal>
-        ensures {
-            Discharges B.Bound.kind (N.NetStore.net store.now) voucher.now
-            (lent self.old cells.now places.now scratch.old) self.new scratch.new result
-        }
+        ensures { Discharges B.Bound.kind (N.NetStore.net store.now) voucher.now
+            (lent self.old cells.now places.now scratch.old) self.new scratch.new result }
     {
         let Stage::Proving(item) = self.stage else {
             return Err(CallRefusal::WrongStage);
@@ -187,10 +177,8 @@ impl Docket {
         scratch: &mut [B],
         voucher: &[u8],
     ) -> Result<(), CallRefusal>
-        ensures step {
-            Discharges B.Bound.kind (N.NetStore.net store.now) voucher.now
-            (lent self.old cells.now places.now scratch.old) self.new scratch.new result
-        }
+        ensures step { Discharges B.Bound.kind (N.NetStore.net store.now) voucher.now
+            (lent self.old cells.now places.now scratch.old) self.new scratch.new result }
         ensures promise { Promise B.Bound.kind (N.NetStore.net store.now) }
     {
         store.keeps_limits();

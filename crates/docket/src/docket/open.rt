@@ -85,11 +85,9 @@ impl Docket {
         requires drafted { length draft.old ≡ draft_cells }
         requires even { length ages.now ≡ length initial.now }
         ensures kept { length draft.new ≡ length draft.old }
-        ensures tried {
-            TriesOpen B.Bound.kind net_places (given initial.now ages.now) target.now
+        ensures tried { TriesOpen B.Bound.kind net_places (given initial.now ages.now) target.now
             (with_book self.old cells.old places.old) (with_book self.new cells.new places.new)
-            result
-        }
+            result }
     {
         let initial = gather(net_places, initial, ages)?;
         let tokens = read_zone(target, net_places, draft)?;
@@ -114,20 +112,14 @@ impl Docket {
         ages: &[u16],
         target: &[u8],
     ) -> Result<(), CallRefusal>
-        ensures answers {
-            OpenAnswers B.Bound.kind (N.NetStore.net store.now) (given initial.now ages.now)
-            target.now (lent self.old cells.old places.old scratch.old) result
-        }
+        ensures answers { OpenAnswers B.Bound.kind (N.NetStore.net store.now) (given initial.now ages.now)
+            target.now (lent self.old cells.old places.old scratch.old) result }
         ensures scratch { Left B.Bound.kind result scratch.old scratch.new }
-        ensures refused {
-            (r : Refused) → result ≡ Err r →
-            with_book self.new cells.new places.new ≡ with_book self.old cells.old places.old
-        }
-        ensures taken {
-            result ≡ Ok tt →
+        ensures refused { (r : Refused) → result ≡ Err r →
+            with_book self.new cells.new places.new ≡ with_book self.old cells.old places.old }
+        ensures taken { result ≡ Ok tt →
             Opened B.Bound.kind (given initial.now ages.now) (zone_of B.Bound.kind target.now)
-            (with_book self.old cells.old places.old) (with_book self.new cells.new places.new)
-        }
+            (with_book self.old cells.old places.old) (with_book self.new cells.new places.new) }
     {
         if self.stage != Stage::Blank {
             return Err(CallRefusal::WrongStage);

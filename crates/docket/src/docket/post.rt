@@ -33,11 +33,9 @@ impl Docket {
         requires whole { length places.old ≡ book_places }
         requires drafted { length draft.old ≡ draft_cells }
         ensures kept { length draft.new ≡ length draft.old }
-        ensures tried {
-            TriesPost B.Bound.kind net_places zone.now
+        ensures tried { TriesPost B.Bound.kind net_places zone.now
             (with_book self.old cells.old places.old) (with_book self.new cells.new places.new)
-            result
-        }
+            result }
     {
         let tokens = read_zone(zone, net_places, draft)?;
         if satisfies(&self.initial, draft, &tokens) {
@@ -58,11 +56,9 @@ impl Docket {
         scratch: &mut [B],
         zone: &[u8],
     ) -> Result<(), CallRefusal>
-        ensures {
-            Posts B.Bound.kind (N.NetStore.net store.now) zone.now
+        ensures { Posts B.Bound.kind (N.NetStore.net store.now) zone.now
             (lent self.old cells.old places.old scratch.old)
-            (lent self.new cells.new places.new scratch.new) result
-        }
+            (lent self.new cells.new places.new scratch.new) result }
     {
         if self.stage != Stage::Listing {
             return Err(CallRefusal::WrongStage);

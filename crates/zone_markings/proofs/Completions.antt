@@ -1,14 +1,10 @@
--- The search finds a pairing exactly where there is one. Assumes nothing.
-use Rattle.std.proofs.Common.{◌≡◌, ℕ, suc, ◌+◌, ◌<◌, ◌≤◌, true, not, eqb, List, [], ◌∷◌, ◌++◌, map, length, get_or, pos, ◌-ℤ◌, sym, refl, ap, ◌∙◌, subst, ap₂, ⊎_elim, arith}
+-- The search finds a pairing exactly where there is one.
+use Rattle.std.proofs.Common.{◌≡◌, ℕ, suc, ◌+◌, ◌<◌, ◌≤◌, true, not, eqb, List, [], ◌∷◌, ◌++◌, map, length, get_or, sym, refl, ap, ◌∙◌, subst, ap₂, ⊎_elim, arith}
 use Rattle.std.proofs.lemmas.Bool.{cases_lt, eqb-true, eq-eqb, and_parts, and_from, not-true, not_from_false}
 use Rattle.std.proofs.lemmas.List.{append-nil, append_assoc, length-append, get_or_append_left}
-use Rattle.bounds.specs.Kinds.{Kind}
-use Rattle.zone_markings.specs.Initial.{token_at}
-use Rattle.zone_markings.specs.Pairings.{allows_both, number_fits, follows, extends}
+use Rattle.zone_markings.specs.Pairings.{Search, allows_both, number_fits, follows, extends}
 use Rattle.zone_markings.proofs.Numbers.{at_end, distinct_more, fresh, some_passing, passing_some, all_zipped, zipped_all}
-use Rattle.nets.specs.Markings.{Marking}
 use Rattle.nets.specs.Nets.{Every}
-use Rattle.zone_walks.specs.Walks.{Matrix}
 use Rattle.zones.specs.Predecessors.{among}
 use Rattle.zones.specs.Vouching.{Distinct, Partner}
 
@@ -21,20 +17,20 @@ tails x y xs ys e = cc
 no_cons : (y : ℕ) (ys : List ℕ) → [] ≡ y ∷ ys → ⊥
 no_cons y ys e = let z : ◌≡◌ {A = ℕ} 0 1 = cc in absurd (omega arith)
 
-module _ {B : Type 0} (kind : Kind B) (d : Matrix B) (m : Marking) where
-  -- the bound of two points allows the ages of two numbers
+module _ (s : Search) where
+  -- two points may have these numbers
   abbrev pub Meets : ℕ → ℕ → ℕ → ℕ → Type 0
-  Meets j i a b = kind.allows 1 (d j i) (pos (token_at m a).age -ℤ pos (token_at m b).age) ≡ true
+  Meets j i a b = s.allows j i a b ≡ true
 
-  -- every bound between two points allows the ages of the numbers that they have
+  -- any two points may have the numbers that they have
   abbrev pub Meet : List ℕ → Type 0
   Meet ps = (j i : ℕ) → j < length ps → i < length ps → (j ≡ i → ⊥) → Meets j i (get_or ps j 0) (get_or ps i 0)
 
   -- numbers for tokens in these places, after those that are chosen
   pub record Completion (chosen places : List ℕ) : Type 0 where
     pub more : List ℕ
-    pub standing : map (λ t. t.place) (map (token_at m) more) ≡ places
-    pub partners : Every (Partner (length m)) more
+    pub standing : map s.place more ≡ places
+    pub partners : Every (Partner (s.count)) more
     pub distinct : Distinct (chosen ++ more)
     pub meet : Meet (chosen ++ more)
 
@@ -66,32 +62,32 @@ module _ {B : Type 0} (kind : Kind B) (d : Matrix B) (m : Marking) where
       i_early h l = let e = ends j p h in meets_at j (length chosen) i i _ _ _ _ e refl (last j e) (old i l) (new i l).0
 
   -- ---- what the search finds
-  pub finds : (places chosen : List ℕ) → extends kind d m chosen places ≡ true → Distinct chosen → Meet chosen → Completion chosen places
+  pub finds : (places chosen : List ℕ) → extends s chosen places ≡ true → Distinct chosen → Meet chosen → Completion chosen places
   finds [] chosen h dist meet =
       let same = sym (append-nil chosen) in
       record { more = []; standing = refl; partners = tt; distinct = subst Distinct same dist; meet = subst Meet same meet }
   finds (place ∷ places) chosen h dist meet =
-      let found = some_passing (follows kind d m chosen place (λ ps. extends kind d m ps places)) 1 (length m) h in
+      let found = some_passing (follows s chosen place (λ ps. extends s ps places)) 1 (s.count) h in
       let t = found.number in
-      let parts = and_parts (number_fits kind d m chosen place t) (extends kind d m (chosen ++ t ∷ []) places) found.passes in
+      let parts = and_parts (number_fits s chosen place t) (extends s (chosen ++ t ∷ []) places) found.passes in
       let fit = and_parts (not (among t chosen)) _ parts.0 in
-      let stand = and_parts (eqb (token_at m t).place place) _ fit.1 in
+      let stand = and_parts (eqb (s.place t) place) _ fit.1 in
       let met : (j : ℕ) → j < length chosen → Meets (length chosen) j t (get_or chosen j 0) × Meets j (length chosen) (get_or chosen j 0) t =
-      λ j below. and_parts _ _ (all_zipped (allows_both kind d m (length chosen) t) 0 chosen stand.1 j j (omega arith) below) in
+      λ j below. and_parts _ _ (all_zipped (allows_both s (length chosen) t) 0 chosen stand.1 j j (omega arith) below) in
       let rest = finds places (chosen ++ t ∷ []) parts.1 (distinct_more chosen t dist (not-true (among t chosen) fit.0)) (meet_more chosen t meet met) in
       let same = append_assoc chosen (t ∷ []) rest.more in
       record {
         more = t ∷ rest.more;
-        standing = ap₂ (λ x xs. x ∷ xs) (eqb-true (token_at m t).place place stand.0) rest.standing;
+        standing = ap₂ (λ x xs. x ∷ xs) (eqb-true (s.place t) place stand.0) rest.standing;
         partners = (record { some = found.low; few = omega (arith, found.high) }, rest.partners);
         distinct = subst Distinct same rest.distinct;
         meet = subst Meet same rest.meet;
       }
 
   -- ---- what there is, it finds
-  fits_first : (chosen : List ℕ) (place t : ℕ) (more : List ℕ) → (token_at m t).place ≡ place → Distinct (chosen ++ t ∷ more) → Meet (chosen ++ t ∷ more) → number_fits kind d m chosen place t ≡ true
+  fits_first : (chosen : List ℕ) (place t : ℕ) (more : List ℕ) → s.place t ≡ place → Distinct (chosen ++ t ∷ more) → Meet (chosen ++ t ∷ more) → number_fits s chosen place t ≡ true
   fits_first chosen place t more stand dist meet =
-      and_from (not (among t chosen)) _ (not_from_false (among t chosen) (fresh chosen t more dist)) (and_from (eqb (token_at m t).place place) _ (eq-eqb (token_at m t).place place stand) (zipped_all (allows_both kind d m (length chosen) t) 0 chosen (λ j at e h. subst (λ n. allows_both kind d m (length chosen) t (n, get_or chosen j 0) ≡ true) {x = j} {y = at} (omega (arith, e)) (both j h))))
+      and_from (not (among t chosen)) _ (not_from_false (among t chosen) (fresh chosen t more dist)) (and_from (eqb (s.place t) place) _ (eq-eqb (s.place t) place stand) (zipped_all (allows_both s (length chosen) t) 0 chosen (λ j at e h. subst (λ n. allows_both s (length chosen) t (n, get_or chosen j 0) ≡ true) {x = j} {y = at} (omega (arith, e)) (both j h))))
     where
       size : length (chosen ++ t ∷ more) ≡ length chosen + suc (length more)
       size = length-append chosen (t ∷ more)
@@ -99,14 +95,14 @@ module _ {B : Type 0} (kind : Kind B) (d : Matrix B) (m : Marking) where
       old : (j : ℕ) → j < length chosen → get_or chosen j 0 ≡ get_or (chosen ++ t ∷ more) j 0
       old j h = sym (get_or_append_left chosen (t ∷ more) 0 j h)
 
-      both : (j : ℕ) → j < length chosen → allows_both kind d m (length chosen) t (j, get_or chosen j 0) ≡ true
+      both : (j : ℕ) → j < length chosen → allows_both s (length chosen) t (j, get_or chosen j 0) ≡ true
       both j h =
           let next = sym (at_end chosen t more) in
           let first = meet (length chosen) j (omega (arith, size)) (omega (arith, size, h)) (λ e. omega (arith, e, h)) in
           let second = meet j (length chosen) (omega (arith, size, h)) (omega (arith, size)) (λ e. omega (arith, e, h)) in
           and_from _ _ (meets_at (length chosen) (length chosen) j j _ _ _ _ refl refl next (old j h) first) (meets_at j j (length chosen) (length chosen) _ _ _ _ refl refl (old j h) next second)
 
-  pub found : (places chosen more : List ℕ) → map (λ t. t.place) (map (token_at m) more) ≡ places → Every (Partner (length m)) more → Distinct (chosen ++ more) → Meet (chosen ++ more) → extends kind d m chosen places ≡ true
+  pub found : (places chosen more : List ℕ) → map s.place more ≡ places → Every (Partner (s.count)) more → Distinct (chosen ++ more) → Meet (chosen ++ more) → extends s chosen places ≡ true
   found [] chosen more standing partners dist meet = refl
   found (place ∷ places) chosen [] standing partners dist meet = absurd (no_cons place places standing)
   found (place ∷ places) chosen (t ∷ more) standing partners dist meet =
@@ -114,4 +110,4 @@ module _ {B : Type 0} (kind : Kind B) (d : Matrix B) (m : Marking) where
       let first = fits_first chosen place t more (heads _ place _ places standing) dist meet in
       let rest = found places (chosen ++ t ∷ []) more (tails _ place _ places standing) partners.1 (subst Distinct same dist) (subst Meet same meet) in
       let few = partners.0.few in
-      passing_some (follows kind d m chosen place (λ ps. extends kind d m ps places)) 1 (length m) t partners.0.some (omega (arith, few)) (and_from (number_fits kind d m chosen place t) _ first rest)
+      passing_some (follows s chosen place (λ ps. extends s ps places)) 1 (s.count) t partners.0.some (omega (arith, few)) (and_from (number_fits s chosen place t) _ first rest)

@@ -1,9 +1,9 @@
--- Pairing by number is what satisfies a zone. Assumes nothing.
+-- Pairing by number is what satisfies a zone.
 use Rattle.std.proofs.Common.{◌≡◌, ℕ, suc, ◌<◌, ◌≤◌, Bool, true, List, [], ◌∷◌, ◌++◌, map, length, get_or, pos, ◌-ℤ◌, sym, refl, ap, ◌∙◌, subst, arith}
 use Rattle.std.proofs.lemmas.List.{length-append, length-map}
 use Rattle.bounds.specs.Kinds.{Kind}
 use Rattle.zone_markings.specs.Initial.{token_at}
-use Rattle.zone_markings.specs.Pairings.{extends}
+use Rattle.zone_markings.specs.Pairings.{by_ages, extends}
 use Rattle.zone_markings.proofs.Numbers.{distinct_front, every_front, permuted_length, permuted_distinct, permuted_every}
 use Rattle.zone_markings.proofs.Completions.{Meet, Completion, finds, found}
 use Rattle.nets.specs.Markings.{Marking, Permuted}
@@ -18,17 +18,22 @@ use Rattle.zones.proofs.Forms.{chosen_count}
 module _ {B : Type 0} (kind : Kind B) (z : Zone B) (m : Marking) where
   -- a pairing by number, the clock's 0 first
   abbrev pub Pairing : Type 0
-  Pairing = Completion kind z.bound m (0 ∷ []) z.places
+  Pairing = Completion (by_ages kind z.bound m) (0 ∷ []) z.places
 
   -- the ages of the numbers are those of the chosen tokens
   age : (ps : List ℕ) (j : ℕ) → j < suc (length ps) → age_of (map (token_of m) ps) j ≡ pos (token_at m (get_or (0 ∷ ps) j 0)).age
   age ps j h = age_chosen m ps j h ∙ age_token m (get_or (0 ∷ ps) j 0)
 
-  meets_ages : (ps : List ℕ) → Meet kind z.bound m (0 ∷ ps) → Between kind 1 (suc (length ps)) z.bound (age_of (map (token_of m) ps))
+  -- and so are their places
+  stand : (ps : List ℕ) → map (λ t. t.place) (map (token_of m) ps) ≡ map (λ n. (token_at m n).place) ps
+  stand [] = refl
+  stand (p ∷ ps) = ap (λ xs. (token_at m p).place ∷ xs) (stand ps)
+
+  meets_ages : (ps : List ℕ) → Meet (by_ages kind z.bound m) (0 ∷ ps) → Between kind 1 (suc (length ps)) z.bound (age_of (map (token_of m) ps))
   meets_ages ps meet j i p q apart =
       ap (λ x. kind.allows 1 (z.bound j i) (x -ℤ age_of (map (token_of m) ps) i)) (age ps j p) ∙ ap (λ x. kind.allows 1 (z.bound j i) (pos (token_at m (get_or (0 ∷ ps) j 0)).age -ℤ x)) (age ps i q) ∙ meet j i p q apart
 
-  ages_meet : (ps : List ℕ) → Between kind 1 (suc (length ps)) z.bound (age_of (map (token_of m) ps)) → Meet kind z.bound m (0 ∷ ps)
+  ages_meet : (ps : List ℕ) → Between kind 1 (suc (length ps)) z.bound (age_of (map (token_of m) ps)) → Meet (by_ages kind z.bound m) (0 ∷ ps)
   ages_meet ps between j i p q apart =
       ap (λ x. kind.allows 1 (z.bound j i) (x -ℤ pos (token_at m (get_or (0 ∷ ps) i 0)).age)) (sym (age ps j p)) ∙ ap (λ x. kind.allows 1 (z.bound j i) (age_of (map (token_of m) ps) j -ℤ x)) (sym (age ps i q)) ∙ between j i p q apart
 
@@ -38,7 +43,7 @@ module _ {B : Type 0} (kind : Kind B) (z : Zone B) (m : Marking) where
         chosen = map (token_of m) c.more;
         rest = l.left;
         pairing = l.same;
-        places = c.standing;
+        places = stand c.more ∙ c.standing;
         allowed = to_counted kind 1 (omega arith) (suc (length z.places)) z.bound (map (token_of m) c.more) (subst (λ n. Between kind 1 (suc n) z.bound (age_of (map (token_of m) c.more))) count (meets_ages c.more c.meet));
       }
     where
@@ -46,13 +51,13 @@ module _ {B : Type 0} (kind : Kind B) (z : Zone B) (m : Marking) where
       l = chosen_left m c.more c.distinct.1 c.partners
 
       count : length c.more ≡ length z.places
-      count = sym (length-map c.more (token_of m)) ∙ sym (length-map (map (token_of m) c.more) (λ t. t.place)) ∙ ap length c.standing
+      count = sym (length-map c.more (token_of m)) ∙ sym (length-map (map (token_of m) c.more) (λ t. t.place)) ∙ ap length (stand c.more ∙ c.standing)
 
   pub paired : Satisfies kind 1 z m → Pairing
   paired s =
       record {
         more = f.front;
-        standing = ap (map (λ t. t.place)) (sym f.is) ∙ s.places;
+        standing = sym (stand f.front) ∙ ap (map (λ t. t.place)) (sym f.is) ∙ s.places;
         partners = partners;
         distinct = (zero_absent (length m) f.front partners, distinct_front f.front f.back (permuted_distinct f.same (distinct_numbers 1 (length m))));
         meet = ages_meet f.front (subst (λ ts. Between kind 1 (suc (length f.front)) z.bound (age_of ts)) f.is between);
@@ -74,8 +79,8 @@ module _ {B : Type 0} (kind : Kind B) (z : Zone B) (m : Marking) where
   pub enough : Satisfies kind 1 z m → length z.places ≤ length m
   enough s = omega (arith, permuted_length s.pairing, length-append s.chosen s.rest, chosen_count kind 1 (omega arith) z m s)
 
-  pub decided : (r : Bool) → r ≡ extends kind z.bound m (0 ∷ []) z.places → (r ≡ true → Satisfies kind 1 z m) × (Satisfies kind 1 z m → r ≡ true)
+  pub decided : (r : Bool) → r ≡ extends (by_ages kind z.bound m) (0 ∷ []) z.places → (r ≡ true → Satisfies kind 1 z m) × (Satisfies kind 1 z m → r ≡ true)
   decided r is = (
-    λ h. satisfied (finds kind z.bound m z.places (0 ∷ []) (sym is ∙ h) (refl, tt) (λ j i p q apart. absurd (omega (arith, p, q, apart)))),
-    λ s. let c = paired s in is ∙ found kind z.bound m z.places (0 ∷ []) c.more c.standing c.partners c.distinct c.meet,
+    λ h. satisfied (finds (by_ages kind z.bound m) z.places (0 ∷ []) (sym is ∙ h) (refl, tt) (λ j i p q apart. absurd (omega (arith, p, q, apart)))),
+    λ s. let c = paired s in is ∙ found (by_ages kind z.bound m) z.places (0 ∷ []) c.more c.standing c.partners c.distinct c.meet,
   )

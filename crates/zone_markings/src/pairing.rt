@@ -1,7 +1,7 @@
 // Whether a token of a zone can be paired with a token of an initial marking.
 ghost use Rattle.zone_cells.specs.Cells.{in_draft};
 ghost use Rattle.zone_markings.specs.Initial.{marking_of, clock};
-ghost use Rattle.zone_markings.specs.Pairings.{allows, allows_all, number_fits};
+ghost use Rattle.zone_markings.specs.Pairings.{allows_all, by_ages, number_fits};
 ghost use Rattle.nets.specs.Nets.{numbered};
 ghost use Rattle.std.specs.Prelude.{◌≡◌, ◌≤◌, ◌+◌, length};
 
@@ -45,7 +45,7 @@ impl<'a, 'b, B: Bound> Pairing<'a, 'b, B> {
 
     // Whether the bound of two points of the zone allows the difference of the ages of these numbers.
     fn allows(&self, j: u8, i: u8, number: u8, other: u8) -> bool
-        ensures { result ≡ allows B.Bound.kind (in_draft B.Bound.kind self.now.cells.now) (marking_of self.now.initial.now.items) j i number other }
+        ensures { result ≡ (by_ages B.Bound.kind (in_draft B.Bound.kind self.now.cells.now) (marking_of self.now.initial.now.items)).allows j i number other }
     {
         let age = i64::from(self.token(number).age);
         let less = i64::from(self.token(other).age);
@@ -54,7 +54,7 @@ impl<'a, 'b, B: Bound> Pairing<'a, 'b, B> {
 
     // Whether the bounds between the next token of the zone and each point before it, both ways, allow the ages of their numbers.
     fn allows_all(&self, chosen: &Chosen, number: u8) -> bool
-        ensures { result ≡ allows_all B.Bound.kind (in_draft B.Bound.kind self.now.cells.now) (marking_of self.now.initial.now.items) chosen.now.items number }
+        ensures { result ≡ allows_all (by_ages B.Bound.kind (in_draft B.Bound.kind self.now.cells.now) (marking_of self.now.initial.now.items)) chosen.now.items number }
     {
         let next = chosen.len() as u8;
         (0..next).zip(chosen.as_slice()).all(|(point, other)| {
@@ -64,7 +64,7 @@ impl<'a, 'b, B: Bound> Pairing<'a, 'b, B> {
 
     // Whether the next token of the zone, in this place, can be paired with the number, after those that have the chosen ones.
     pub(crate) fn number_fits(&self, chosen: &Chosen, place: u8, number: u8) -> bool
-        ensures { result ≡ number_fits B.Bound.kind (in_draft B.Bound.kind self.now.cells.now) (marking_of self.now.initial.now.items) chosen.now.items place number }
+        ensures { result ≡ number_fits (by_ages B.Bound.kind (in_draft B.Bound.kind self.now.cells.now) (marking_of self.now.initial.now.items)) chosen.now.items place number }
     {
         !is_among(number, chosen)
             && self.token(number).place == place

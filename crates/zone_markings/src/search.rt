@@ -3,7 +3,7 @@
 ghost use Rattle.zone_cells.specs.Cells.{in_draft};
 ghost use Rattle.zone_cells.specs.Drafts.{draft_zone};
 ghost use Rattle.zone_markings.specs.Initial.{marking_of};
-ghost use Rattle.zone_markings.specs.Pairings.{extends, follows};
+ghost use Rattle.zone_markings.specs.Pairings.{by_ages, extends, follows};
 ghost use Rattle.std.specs.Prelude.{◌≡◌, ◌<◌, ◌≤◌, ◌+◌, ◌↔◌, IsTrue, [], ◌∷◌, ◌++◌, length};
 ghost use Rattle.zones.specs.Zones.{Satisfies};
 
@@ -25,7 +25,7 @@ impl<'a, 'b, B: Bound> Pairing<'a, 'b, B> {
     // Whether the zone's tokens in these places can be paired too, after those that have the chosen numbers. At most nine calls deep.
     fn extends(&self, chosen: &Chosen, places: &[u8]) -> bool
         requires { length chosen.now.items + length places.now ≤ 9 }
-        ensures { result ≡ extends B.Bound.kind (in_draft B.Bound.kind self.now.cells.now) (marking_of self.now.initial.now.items) chosen.now.items places.now }
+        ensures { result ≡ extends (by_ages B.Bound.kind (in_draft B.Bound.kind self.now.cells.now) (marking_of self.now.initial.now.items)) chosen.now.items places.now }
     {
         let Some((place, later)) = places.split_first() else {
             return true;
@@ -35,7 +35,7 @@ impl<'a, 'b, B: Bound> Pairing<'a, 'b, B> {
         (1..self.end()).any(
             |number|
                 requires { length chosen.now.items + length later.now ≤ 8 }
-                ensures { result ≡ follows B.Bound.kind (in_draft B.Bound.kind self.entry.now.cells.now) (marking_of self.entry.now.initial.now.items) chosen.entry.now.items place.entry.now (λ more. extends B.Bound.kind (in_draft B.Bound.kind self.entry.now.cells.now) (marking_of self.entry.now.initial.now.items) more later.entry.now) number }
+                ensures { result ≡ follows (by_ages B.Bound.kind (in_draft B.Bound.kind self.entry.now.cells.now) (marking_of self.entry.now.initial.now.items)) chosen.entry.now.items place.entry.now (λ more. extends (by_ages B.Bound.kind (in_draft B.Bound.kind self.entry.now.cells.now) (marking_of self.entry.now.initial.now.items)) more later.entry.now) number }
             {
                 self.number_fits(chosen, *place, number)
                     && self.extends(&one_more(chosen, number), later)

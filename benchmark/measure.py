@@ -1,5 +1,6 @@
 #!/usr/bin/env python3
-"""Runs two programs on files from standard input, in turn, and prints the least times and the peak memory of each as a table.
+"""Runs two programs on files from standard input, in turn, and prints the least times, what a voucher takes, their ratio and
+the peak memory of each as a table.
 
     measure.py ROUNDS PROGRAM OTHER FILE..
 """
@@ -25,13 +26,21 @@ def peak(program, path):
     return int(said.stderr.split()[-1]) / 1024
 
 
+def per_voucher(line, seconds):
+    """Nanoseconds for each of the vouchers that a line counts."""
+    counted = line.split()[-1]
+    return f"{1e9 * seconds / int(counted):.0f}" if counted.isdigit() and int(counted) else ""
+
+
 def row(rounds, programs, path):
     results = [[run(program, path) for program in programs] for _ in range(rounds)]
     lines = {line for pair in results for line, _, _ in pair}
     wall, processor = ([min(pair[n][which] for pair in results) for n in (0, 1)] for which in (1, 2))
     size = os.path.getsize(path) / 1024 / 1024
-    cells = [os.path.basename(path), f"{size:.1f}", lines.pop() if len(lines) == 1 else f"DIFFERENT: {lines}"]
+    line = lines.pop() if len(lines) == 1 else f"DIFFERENT: {lines}"
+    cells = [os.path.basename(path), f"{size:.1f}", line]
     cells += [f"{wall[n]:.3f} ({processor[n]:.3f})" for n in (0, 1)]
+    cells += [per_voucher(line, processor[n]) for n in (0, 1)]
     cells += [f"{processor[0] / max(processor[1], 0.001):.2f}"] + [f"{peak(program, path):.1f}" for program in programs]
     return "| " + " | ".join(cells) + " |"
 
@@ -39,7 +48,8 @@ def row(rounds, programs, path):
 def main():
     rounds, programs, paths = int(sys.argv[1]), sys.argv[2:4], sys.argv[4:]
     print(f"least of {rounds} rounds, {os.cpu_count()} processors, load {os.getloadavg()[0]:.1f} when begun; seconds (of the processor)\n")
-    print("| docket | MB | line | program | other | ratio | program MB | other MB |\n|---|---|---|---|---|---|---|---|")
+    print("| docket | MB | line | program | other | ns | other ns | ratio | program MB | other MB |")
+    print("|---|---|---|---|---|---|---|---|---|---|")
     for path in paths:
         print(row(rounds, programs, path), flush=True)
 

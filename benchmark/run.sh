@@ -15,15 +15,16 @@ rustc --edition 2021 -C opt-level=3 -o "$FOLDER/check" "$here/check.rs"
 program=$1
 if [ -z "$program" ]; then
     program=$here/../crates/report/out/report
-    [ -d "$here/../crates/report" ] || { echo "there is no crates/report: name a program" >&2; exit 1; }
-    (cd "$here/../crates/report" && rt run < stdin > /dev/null)
+    "$here/../buttesieve" "$here/../examples/two_carriers" > /dev/null
 fi
 
 docket() {
     [ -e "$FOLDER/$1" ] || python3 "$here/generate.py" "$FOLDER/$1" "${@:2}"
 }
 docket small --zones 3 --transitions 2
+docket plain_1 --zones 1
+docket plain_8 --zones 8
 docket plain
 docket marked --kind marked
 docket void --void
-python3 "$here/measure.py" "${ROUNDS:-5}" "$program" "$FOLDER/check" "$FOLDER"/{small,plain,marked,void}
+python3 "$here/measure.py" "${ROUNDS:-5}" "$program" "$FOLDER/check" "$FOLDER"/{small,plain_1,plain_8,plain,marked,void}

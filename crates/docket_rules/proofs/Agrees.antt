@@ -8,8 +8,7 @@ use Rattle.docket_dues.specs.declared.item.Item.{Item}
 use Rattle.zone_markings.specs.Initial.{marking_of}
 use Rattle.nets.specs.Nets.{Net, Every, numbered}
 use Rattle.docket_rules.specs.Calls.{PageFormed}
-use Rattle.docket_rules.specs.Logs.{Log, Opening, no_log}
-use Rattle.docket_rules.specs.Promise.{stage_said}
+use Rattle.docket_rules.specs.Logs.{Log, Opening, no_log, stage_said}
 use Rattle.docket_rules.specs.Worlds.{World, blank, book_cells, book_places, listed_pages, page_of}
 use Rattle.zones.specs.Zones.{Zone, NormalOf, Satisfies}
 

@@ -7,8 +7,7 @@ use Rattle.docket_dues.specs.Dues.{target_item, all_due}
 use Rattle.docket_dues.proofs.Order.{target_leads}
 use Rattle.nets.specs.Nets.{Net}
 use Rattle.docket_rules.specs.Calls.{Close, NextDue, Step}
-use Rattle.docket_rules.specs.Logs.{Log, Opening, with_call}
-use Rattle.docket_rules.specs.Promise.{proving_stage}
+use Rattle.docket_rules.specs.Logs.{Log, Opening, with_call, proving_stage}
 use Rattle.docket_rules.specs.Tables.{Answer, close_table, is_listing}
 use Rattle.docket_rules.specs.Worlds.{State, World, with_book}
 use Rattle.docket_rules.specs.declared.stage.Stage.TheVariants.{Proving}

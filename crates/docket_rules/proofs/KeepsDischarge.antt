@@ -10,8 +10,7 @@ use Rattle.docket_dues.proofs.Counts.{due_at_most}
 use Rattle.docket_dues.proofs.Turns.{awaits_next, awaited_below, one_more_answered}
 use Rattle.nets.specs.Nets.{Limits, Net}
 use Rattle.docket_rules.specs.Calls.{BookKept, Discharge, Discharged, Step, most_taken, stage_of}
-use Rattle.docket_rules.specs.Logs.{Log, Opening, with_call}
-use Rattle.docket_rules.specs.Promise.{proving_stage, stage_said}
+use Rattle.docket_rules.specs.Logs.{Log, Opening, with_call, proving_stage, stage_said}
 use Rattle.docket_rules.specs.Tables.{Answer, discharge_rows, due_in, is_proving}
 use Rattle.docket_rules.specs.Worlds.{State, World, listed_pages, page_of, whole, with_book, with_scratch}
 use Rattle.docket_rules.specs.declared.stage.Stage.TheVariants.{Proving}

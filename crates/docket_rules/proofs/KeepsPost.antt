@@ -11,8 +11,7 @@ use Rattle.docket_records.proofs.Sizes.{zone_small}
 use Rattle.zone_markings.specs.Initial.{marking_of}
 use Rattle.nets.specs.Nets.{Every, Net}
 use Rattle.docket_rules.specs.Calls.{Post, Posted, Step}
-use Rattle.docket_rules.specs.Logs.{Log, Opening, with_call}
-use Rattle.docket_rules.specs.Promise.{stage_said}
+use Rattle.docket_rules.specs.Logs.{Log, Opening, with_call, stage_said}
 use Rattle.docket_rules.specs.Tables.{Answer, is_listing, post_table}
 use Rattle.docket_rules.specs.Worlds.{World, listed_count, listed_pages, page_of, whole, with_scratch}
 use Rattle.zones.specs.Zones.{Zone, Satisfies, SizedZone}

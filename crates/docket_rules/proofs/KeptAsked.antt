@@ -15,7 +15,7 @@ abbrev Alike : {B : Type 0} → Matrix B → Matrix B → Type 0
 Alike x y = (j i : ℕ) → x j i ≡ y j i
 
 module _ {B : Type 0} (kind : Kind B) where
-  same_as_one : (z x y : Zone B) → SameZone z x → SameZone z y → SameZone x y
+  pub same_as_one : (z x y : Zone B) → SameZone z x → SameZone z y → SameZone x y
   same_as_one z x y g h =
       let few = ap length g.places in
       record {

@@ -15,8 +15,7 @@ use Rattle.zones.specs.Safety.{Apart, Safe, starts_at}
 use Rattle.zones.specs.Zones.{Zone, SizedZone}
 use Rattle.zones.proofs.Certificates.{apart_at}
 use Rattle.zones.proofs.ZoneLaws.{zones_keep_laws}
-use Rattle.docket_rules.specs.Logs.{Log, Opening, still_due}
-use Rattle.docket_rules.specs.Promise.{proving_stage, stage_said}
+use Rattle.docket_rules.specs.Logs.{Log, Opening, still_due, proving_stage, stage_said}
 use Rattle.docket_rules.specs.Tables.{is_sealed}
 use Rattle.docket_rules.specs.Worlds.{World, listed_count, listed_pages, page_of}
 use Rattle.docket_rules.specs.declared.stage.Stage.TheVariants.{Sealed}
@@ -24,7 +23,7 @@ use Rattle.docket_rules.proofs.Agrees.{AgreesOpened}
 use Rattle.docket_rules.proofs.Listed.{listed_as_many, places_listed}
 
 -- ---- the seal stands where nothing is due
-none_left : (items : List Item) → proving_stage items ≡ Sealed → items ≡ []
+pub none_left : (items : List Item) → proving_stage items ≡ Sealed → items ≡ []
 none_left [] e = refl
 none_left (d ∷ items) e = absurd (false≢true (ap is_sealed e))
 

@@ -6,6 +6,9 @@ pub mod Listed
 pub mod Written
 pub mod Sounds
 pub mod Moved
+pub mod AlikeRows
+pub mod KeptAsked
+pub mod OneForm
 pub mod KeepsClose
 pub mod KeepsOpen
 pub mod KeepsPost
@@ -14,7 +17,7 @@ pub mod Keeps
 pub mod KeptTruth
 pub mod Reaching
 pub mod KeptExact
-pub mod KeptAsked
 pub mod KeptVouch
 pub mod KeptReach
+pub mod KeptClosed
 pub mod Kept

@@ -33,4 +33,4 @@ module _ {B : Type 0} (kind : Kind B) (net : Net B) where
       }
 
   pub reached_kept : (log : Log B) (w : World B) → Promise kind net → ReachedByCalls kind net log w → Kept kind net log w
-  reached_kept log w promise r = subst (λ l. Kept kind net l w) (sym r.logged) (promise r.cells r.places r.calls w r.played)
+  reached_kept log w promise r = subst (λ l. Kept kind net l w) (sym r.logged) (promise r.cells r.places r.calls w r.played).kept

@@ -9,8 +9,7 @@ use Rattle.docket_dues.specs.declared.item.Item.{Item}
 use Rattle.docket_dues.proofs.Turns.{awaited_is_due}
 use Rattle.nets.specs.Nets.{Net}
 use Rattle.docket_rules.specs.Calls.{Sound, stage_of}
-use Rattle.docket_rules.specs.Logs.{Log, Opening}
-use Rattle.docket_rules.specs.Promise.{proving_stage, stage_said}
+use Rattle.docket_rules.specs.Logs.{Log, Opening, proving_stage, stage_said}
 use Rattle.docket_rules.specs.Tables.{due_in, is_proving}
 use Rattle.docket_rules.specs.Worlds.{World, listed_pages}
 use Rattle.docket_rules.proofs.Agrees.{AgreesAs, AgreesOpened}

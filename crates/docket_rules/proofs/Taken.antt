@@ -3,8 +3,7 @@ use Rattle.std.proofs.Common.{◌≡◌, ℕ, Bool, true, false, List, [], ◌�
 use Rattle.std.proofs.lemmas.Bool.{false≢true}
 use Rattle.docket_dues.specs.declared.item.Item.{Item}
 use Rattle.nets.specs.Nets.{Net}
-use Rattle.docket_rules.specs.Logs.{Log, Opening, still_due}
-use Rattle.docket_rules.specs.Promise.{proving_stage, stage_said}
+use Rattle.docket_rules.specs.Logs.{Log, Opening, still_due, proving_stage, stage_said}
 use Rattle.docket_rules.specs.Tables.{Answer, Answers, Begins, Row, number_of, is_blank, is_listing, is_proving}
 
 -- ---- rows

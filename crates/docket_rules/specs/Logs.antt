@@ -1,15 +1,19 @@
--- What a list of calls has put into a docket, told by the calls that were taken alone.
-use Rattle.std.specs.Prelude.{ℕ, ◌+◌, Bool, true, false, List, [], ◌∷◌, ◌++◌, Ok, Err, Some, None, Option, drop}
+-- What a list of calls has put into a docket, told by the calls that were taken alone: what they gave,
+-- as it was given, and what a docket then keeps.
+use Rattle.std.specs.Prelude.{ℕ, ◌+◌, ◌≤◌, Bool, true, false, List, [], ◌∷◌, ◌++◌, map, length, drop, Ok, Err, Some, None, Option}
 use Rattle.bounds.specs.Kinds.{Kind}
 use Rattle.docket_dues.specs.Answered.{places_of_all}
 use Rattle.docket_dues.specs.Dues.{all_due}
 use Rattle.docket_dues.specs.declared.item.Item.{Item}
 use Rattle.docket_records.specs.ZoneRecords.{zone_of}
 use Rattle.docket_records.specs.declared.token.InitialToken.{InitialToken}
-use Rattle.nets.specs.Nets.{Net}
+use Rattle.nets.specs.Nets.{Net, numbered}
 use Rattle.docket_rules.specs.Calls.{Call, Open, Post, Close, Discharge, NextDue}
 use Rattle.docket_rules.specs.Tables.{initial_tokens}
-use Rattle.zones.specs.Zones.{Zone}
+use Rattle.docket_rules.specs.Worlds.{State}
+use Rattle.docket_rules.specs.declared.stage.Stage.{Stage}
+use Rattle.docket_rules.specs.declared.stage.Stage.TheVariants.{Blank, Listing, Proving, Sealed}
+use Rattle.zones.specs.Zones.{Zone, NormalOf}
 
 -- what the open that was taken has given
 pub record Opening (B : Type 0) : Type 0 where
@@ -49,3 +53,42 @@ with_calls kind log (c ∷ calls) = with_calls kind (with_call kind log c) calls
 -- what is still due, the earliest first
 abbrev pub still_due : {B : Type 0} → Net B → Log B → List Item
 still_due net log = drop log.taken (all_due net (places_of_all log.listed))
+
+-- ---- what the log says that a docket keeps
+-- nothing due is the seal
+abbrev pub proving_stage : List Item → Stage
+proving_stage [] = Sealed
+proving_stage (d ∷ later) = Proving d
+
+abbrev pub stage_said : {B : Type 0} → Net B → Log B → Option (Opening B) → Bool → Stage
+stage_said net log None closed = Blank
+stage_said net log (Some opening) false = Listing
+stage_said net log (Some opening) true = proving_stage (still_due net log)
+
+-- the tokens that were given, and how many each record has, the target's first
+abbrev pub initial_said : {B : Type 0} → Option (Opening B) → List InitialToken
+initial_said None = []
+initial_said (Some opening) = opening.initial
+
+abbrev pub counts_said : {B : Type 0} → List (Zone B) → Option (Opening B) → List ℕ
+counts_said listed None = []
+counts_said listed (Some opening) = map (λ z. length z.places) (opening.target ∷ listed)
+
+abbrev pub state_said : {B : Type 0} → Net B → Log B → State
+state_said net log =
+    record {
+      stage = stage_said net log log.opening log.closed;
+      initial = initial_said log.opening;
+      counts = counts_said log.listed log.opening;
+      taken = log.taken;
+    }
+
+-- ---- zones by number, the target's 0: each the normal form of the zone that its record says
+abbrev pub FormsOf : {B : Type 0} → Kind B → List (Zone B) → Option (Opening B) →
+    (zones : ℕ → Zone B) → Type 0
+FormsOf kind listed None zones = Unit {0}
+FormsOf kind listed (Some opening) zones =
+    (p : ℕ) → p ≤ length listed → NormalOf kind (numbered listed p opening.target) (zones p)
+
+abbrev pub Forms : {B : Type 0} → Kind B → Log B → (zones : ℕ → Zone B) → Type 0
+Forms kind log zones = FormsOf kind log.listed log.opening zones

@@ -13,7 +13,7 @@ use Rattle.zones.specs.Zones.{Zone, points}
 use Rattle.zone_cells.specs.Cells.{arc_at}
 use Rattle.zone_cells.specs.Drafts.{largest_predecessor}
 use Rattle.zone_cells.proofs.Steps.{staying_inside}
-use Rattle.zone_closed_forms.specs.ClosedForms.{ClockRows, by_clock, framed, closed, crossed, narrowed_rows, all_narrowed, spread, replaced, fired_zone}
+use Rattle.zone_closed_forms.specs.ClosedForms.{ClockRows, by_clock, framed, closed, crossed, narrowed_rows, all_narrowed, spread, kept_closed, replaced, fired_zone}
 use Rattle.zone_closed_forms.specs.Laws.{FiredForm}
 use Rattle.zone_closed_forms.specs.ClockRows.{Alike, AlikeOr, narrowed_next, narrowed_on}
 
@@ -72,6 +72,14 @@ module _ {B : Type 0} (kind : Kind B) where
   closed_alike n x rows other h j k p q =
       framed_alike rows other j k _ _ (h.up j p) (h.low k q) (ap (lesser kind (x j k)) (by_clock_alike rows other j k (h.up j p) (h.low k q)))
 
+  kept_closed_alike : (x : Matrix B) (kept : List ℕ) (rows other : ClockRows B) (j k : ℕ) → rows.up j ≡ other.up j → rows.low k ≡ other.low k → kept_closed kind x kept rows j k ≡ kept_closed kind x kept other j k
+  kept_closed_alike x kept rows other j k up low =
+      framed_alike rows other j k _ _ up low
+      (ap (λ way. cond (ltb j (length kept) && ltb k (length kept)) (lesser kind (x (get_or kept j 0) (get_or kept k 0)) way) way) (by_clock_alike rows other j k up low))
+
+  pub kept_alike : (n : ℕ) (x : Matrix B) (kept : List ℕ) (rows other : ClockRows B) → Alike n rows other → Same n (kept_closed kind x kept rows) (kept_closed kind x kept other)
+  kept_alike n x kept rows other h j k p q = kept_closed_alike x kept rows other j k (h.up j p) (h.low k q)
+
   module _ (n : ℕ) (x : Matrix B) (kept : List ℕ) (arcs : List (Arc B)) (rows other : ClockRows B) (inside : (j : ℕ) → get_or kept j 0 < n) (h : Alike n rows other) where
     abbrev now : ClockRows B
     now = spread kind kept arcs rows
@@ -86,9 +94,7 @@ module _ {B : Type 0} (kind : Kind B) where
     low_spread k = ap (λ b. cond (ltb k (length kept)) b (arc_at kind arcs (k - length kept)).range.lower) (h.low (get_or kept k 0) (inside k))
 
     pub replaced_alike : (j k : ℕ) → replaced kind x kept arcs rows j k ≡ replaced kind x kept arcs other j k
-    replaced_alike j k =
-        framed_alike now then j k _ _ (up_spread j) (low_spread k)
-        (ap (λ way. cond (ltb j (length kept) && ltb k (length kept)) (lesser kind (x (get_or kept j 0) (get_or kept k 0)) way) way) (by_clock_alike now then j k (up_spread j) (low_spread k)))
+    replaced_alike j k = kept_closed_alike x kept now then j k (up_spread j) (low_spread k)
 
   pub fired_alike : (t : Transition B) (matching : List ℕ) (z : Zone B) (rows other : ClockRows B) → Alike (points z) rows other → FiredForm kind t matching z rows → FiredForm kind t matching z other
   fired_alike t matching z rows other h f =

@@ -5,7 +5,7 @@ use Rattle.bounds.specs.Kinds.{Kind}
 use Rattle.zone_walks.specs.Walks.{lesser}
 use Rattle.zone_walks.proofs.Lessers.{lesser_left, lesser_right, lesser_cases}
 use Rattle.zone_closed_forms.specs.ClockRows.{ClockRowLaws}
-use Rattle.zone_closed_forms.proofs.Alike.{all_alike, closed_alike, next_narrowed, done_narrowed, fired_alike}
+use Rattle.zone_closed_forms.proofs.Alike.{all_alike, closed_alike, kept_alike, next_narrowed, done_narrowed, fired_alike}
 use Rattle.zone_closed_forms.proofs.Kept.{all_kept, all_places, begun_same}
 
 module _ {B : Type 0} (kind : Kind B) where
@@ -29,6 +29,7 @@ module _ {B : Type 0} (kind : Kind B) where
         done = done_narrowed kind;
         alike = all_alike kind;
         bounds = λ n x rows other j k h. closed_alike kind n x rows other h j k;
+        kept_bounds = λ n x kept rows other j k h. kept_alike kind n x kept rows other h j k;
         fired = fired_alike kind;
         stays = λ z rows. all_kept kind z rows;
         places = all_places;

@@ -8,7 +8,8 @@ use Rattle.zone_walks.specs.Walks.{Matrix, lesser}
 use Rattle.zones.specs.Predecessors.{staying, places_at}
 use Rattle.zones.specs.Zones.{Zone, points}
 use Rattle.zone_cells.specs.Cells.{arc_at}
-use Rattle.zone_closed_forms.specs.ClosedForms.{ClockRows, begun, closed, crossed, replaced}
+use Rattle.zone_closed_forms.specs.ClosedForms.{ClockRows, begun, closed, crossed}
+use Rattle.zone_closed_forms.specs.ClosedForms.{kept_closed, replaced}
 use Rattle.zone_closed_forms.specs.ClosedForms.{narrowed_rows, all_narrowed}
 use Rattle.zone_closed_forms.specs.Laws.{Listed, FiredForm}
 
@@ -53,6 +54,9 @@ pub record ClockRowLaws {B : Type 0} (kind : Kind B) : Type 0 where
   -- rows that are alike at the zone's points have the same bounds, and are those of one predecessor
   pub bounds : (n : ℕ) (x : Matrix B) (rows other : ClockRows B) (j k : ℕ) → Alike n rows other →
       j < n → k < n → closed kind x rows j k ≡ closed kind x other j k
+  pub kept_bounds : (n : ℕ) (x : Matrix B) (kept : List ℕ) (rows other : ClockRows B) (j k : ℕ) →
+      Alike n rows other → j < n → k < n →
+      kept_closed kind x kept rows j k ≡ kept_closed kind x kept other j k
   pub fired : (t : Transition B) (matching : List ℕ) (z : Zone B) (rows other : ClockRows B) →
       Alike (points z) rows other → FiredForm kind t matching z rows →
       FiredForm kind t matching z other

@@ -93,15 +93,18 @@ spread kind kept arcs rows =
           else (arc_at kind arcs (k - length kept)).range.lower;
     }
 
--- between tokens that stay the closed form, to or from an arc's token the way by the clock alone
+-- between two kept points the closed form, to or from one behind them the way by the clock alone
+abbrev pub kept_closed : {B : Type 0} →
+    Kind B → Matrix B → List ℕ → ClockRows B → Matrix B
+kept_closed kind x kept rows =
+    framed kind rows
+    (λ j k. if nat_lt j (length kept) && nat_lt k (length kept)
+    then lesser kind (x (slice_index kept j) (slice_index kept k)) (by_clock kind rows j k)
+    else by_clock kind rows j k)
+
 abbrev pub replaced : {B : Type 0} →
     Kind B → Matrix B → List ℕ → List (Arc B) → ClockRows B → Matrix B
-replaced kind x kept arcs rows =
-    let now : ClockRows _ = spread kind kept arcs rows in
-    framed kind now
-    (λ j k. if nat_lt j (length kept) && nat_lt k (length kept)
-    then lesser kind (x (slice_index kept j) (slice_index kept k)) (by_clock kind now j k)
-    else by_clock kind now j k)
+replaced kind x kept arcs rows = kept_closed kind x kept (spread kind kept arcs rows)
 
 abbrev pub fired_zone : {B : Type 0} →
     Kind B → Transition B → List ℕ → Zone B → ClockRows B → Zone B

@@ -1,4 +1,4 @@
--- Where the call for one more entry of a certificate leads. Assumes nothing.
+-- Where the call for one more entry of a certificate leads.
 use Rattle.std.proofs.Common.{◌≡◌, ℕ, ◌+◌, ◌<◌, true, false, List, [], ◌∷◌, ◌++◌, map, length, take, get_or, replicate, cond, Bool, Ok, Err, Some, None, Option, Result, is_err, is_some, refl, sym, ap, ◌∙◌, subst, ⊎_elim, arith}
 use Rattle.std.proofs.lemmas.Bool.{false≢true, true≢false}
 use Rattle.std.proofs.lemmas.List.{length-replicate, map-append, take_all, take_more}
@@ -6,7 +6,7 @@ use Rattle.bounds.specs.PlainKind.{plain_kind}
 use Rattle.bounds.specs.declared.plain.PlainBound.{PlainBound}
 use Rattle.docket_dues.specs.declared.item.Item.{Item}
 use Rattle.docket_records.specs.ZoneRecords.{zone_of}
-use Rattle.docket_example.specs.Checking.{CallsEnded, MayBeRefused, EntryStands, Stopped, at_entry, blank_page, call_for, listing, log_before, opening_of, proving, check_verdict}
+use Rattle.docket_example.specs.Checking.{CallsEnded, MayBeRefused, EntryStands, Stopped, at_entry, blank_page, call_for, check_verdict, given_by, initial_marking, listing, log_before, opening_of, proving, target_of}
 use Rattle.docket_example.specs.declared.certificate.Certificate.{Certificate}
 use Rattle.docket_example.specs.declared.checking.Entry.{Entry}
 use Rattle.docket_example.specs.declared.checking.Entry.TheVariants.{Opening as InOpening, Zone, ListEnd, Voucher}
@@ -19,8 +19,8 @@ use Rattle.docket_rules.specs.Logs.{Log, no_log, still_due, with_call}
 use Rattle.docket_rules.specs.Promise.{Kept, Promise, proving_stage}
 use Rattle.docket_rules.specs.Reached.{ReachedByCalls}
 use Rattle.docket_rules.specs.Tables.{Answer, is_listing}
-use Rattle.docket_rules.specs.Worlds.{State, World, blank}
-use Rattle.zones.specs.Safety.{Safe}
+use Rattle.docket_rules.specs.Worlds.{State, World, blank, book_cells, book_places, with_book, with_scratch}
+use Rattle.zones.specs.Safety.{Safe, starts_at}
 
 abbrev refused_or : Refused → Result (Unit {0}) Refused → Refused
 refused_or other (Ok u) = other
@@ -40,23 +40,23 @@ left_blank answer lent left e h = h ∙ as_lent (is_early answer) lent blank_pag
 
 module _ (net : Net PlainBound) (c : Certificate) where
   -- ---- the step that a call's contract gives
-  pub open_step : (w v : World PlainBound) (lent left : List PlainBound) (answer : Answer) → lent ≡ blank_page → Opens plain_kind net c.places.now c.ages.now c.target.now lent left w v answer → Step plain_kind net w (call_for c InOpening answer) v
-  open_step w v lent left answer e h = (left, subst (λ l. Opens plain_kind net c.places.now c.ages.now c.target.now l left w v answer) e h)
+  pub open_step : (w v : World PlainBound) (lent left : List PlainBound) (answer : Answer) → lent ≡ blank_page → Opens plain_kind net (given_by c) c.target.now (with_scratch w lent) (with_scratch v left) answer → Step plain_kind net w (call_for c InOpening answer) v
+  open_step w v lent left answer e h = (left, subst (λ l. Opens plain_kind net (given_by c) c.target.now (with_scratch w l) (with_scratch v left) answer) e h)
 
-  pub post_step : (n : ℕ) (w v : World PlainBound) (lent left : List PlainBound) (answer : Answer) → lent ≡ blank_page → Posts plain_kind net (get_or c.zones.now n []) lent left w v answer → Step plain_kind net w (call_for c (Zone n) answer) v
-  post_step n w v lent left answer e h = (left, subst (λ l. Posts plain_kind net (get_or c.zones.now n []) l left w v answer) e h)
+  pub post_step : (n : ℕ) (w v : World PlainBound) (lent left : List PlainBound) (answer : Answer) → lent ≡ blank_page → Posts plain_kind net (get_or c.zones.now n []) (with_scratch w lent) (with_scratch v left) answer → Step plain_kind net w (call_for c (Zone n) answer) v
+  post_step n w v lent left answer e h = (left, subst (λ l. Posts plain_kind net (get_or c.zones.now n []) (with_scratch w l) (with_scratch v left) answer) e h)
 
-  pub discharge_step : (n : ℕ) (w v : World PlainBound) (lent left : List PlainBound) (answer : Answer) → lent ≡ blank_page → Discharges plain_kind net (get_or c.vouchers.now n []) lent left w v answer → Step plain_kind net w (call_for c (Voucher n) answer) v
-  discharge_step n w v lent left answer e h = (left, subst (λ l. Discharges plain_kind net (get_or c.vouchers.now n []) l left w v answer) e h)
+  pub discharge_step : (n : ℕ) (w : World PlainBound) (s : State) (lent left : List PlainBound) (answer : Answer) → lent ≡ blank_page → Discharges plain_kind net (get_or c.vouchers.now n []) (with_scratch w lent) s left answer → Step plain_kind net w (call_for c (Voucher n) answer) (with_book s w.cells w.places)
+  discharge_step n w s lent left answer e h = (left, subst (λ l. Discharges plain_kind net (get_or c.vouchers.now n []) (with_scratch w l) s left answer) e h, record { cells = refl; places = refl })
 
   -- ---- where a step leads
-  pub begun : (s : State) (x : PlainBound) → s ≡ blank → EntryStands net no_log (record { state = s; cells = replicate 5184 x; places = replicate 512 0 })
+  pub begun : (s : State) (x : PlainBound) → s ≡ blank → EntryStands net no_log (record { state = s; cells = replicate book_cells x; places = replicate book_places 0 })
   begun s x is =
-      let book = replicate {A = ℕ} 512 0 in
+      let book = replicate {A = ℕ} book_places 0 in
       record {
-        reached = subst (λ s. ReachedByCalls plain_kind net no_log (record { state = s; cells = replicate 5184 x; places = book })) (sym is) (reached_blank plain_kind net (replicate 5184 x) book);
-        cells = length-replicate 5184 x;
-        places = length-replicate {A = ℕ} 512 0;
+        reached = subst (λ s. ReachedByCalls plain_kind net no_log (record { state = s; cells = replicate book_cells x; places = book })) (sym is) (reached_blank plain_kind net (replicate book_cells x) book);
+        cells = length-replicate book_cells x;
+        places = length-replicate {A = ℕ} book_places 0;
       }
 
   -- an entry that is taken
@@ -123,5 +123,5 @@ module _ (net : Net PlainBound) (c : Certificate) where
     pub ended_sealed : None ≡ next_due_of w.state.stage → CallsEnded net c Sealed
     ended_sealed e = record { world = w; stands = s; said = ap check_verdict (sym (none_due e)) }
 
-    pub seal_holds : None ≡ next_due_of w.state.stage → Safe plain_kind net (opening_of c).initial (opening_of c).target
+    pub seal_holds : None ≡ next_due_of w.state.stage → Safe plain_kind net (starts_at (initial_marking c)) (target_of c)
     seal_holds e = kept.truth (kept.stage ∙ ap proving_stage (none_due e))

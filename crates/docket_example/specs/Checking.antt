@@ -1,8 +1,10 @@
 -- What the check of a certificate answers: what the rules of a docket make of its entries, with one call for each.
 --     entry     the opening, a listed zone, the end of the list, or a voucher
 --     log       what the calls that were taken have given
--- Assumes nothing.
 use Rattle.std.specs.Prelude.{◌≡◌, ℕ, ◌<◌, true, false, List, [], ◌∷◌, map, length, take, replicate, Ok, Err, Some, Result, slice_index_or}
+use Rattle.net_handover.specs.HandoverNet.{handover_net}
+use Rattle.net_handover.specs.declared.Handover.{Handover}
+use Rattle.nets.specs.Markings.{Marking}
 use Rattle.bounds.specs.PlainKind.{plain_kind}
 use Rattle.bounds.specs.declared.plain.PlainBound.{PlainBound}
 use Rattle.docket_dues.specs.declared.item.Item.{Item}
@@ -15,17 +17,33 @@ use Rattle.docket_example.specs.declared.checking.Verdict.{Verdict}
 use Rattle.docket_example.specs.declared.checking.Verdict.TheVariants.{Sealed, StillDue}
 use Rattle.zone_markings.specs.Initial.{marking_of}
 use Rattle.nets.specs.Nets.{Net}
-use Rattle.docket_rules.specs.Calls.{Call, Open, Post, Close, Discharge, initial_tokens}
+use Rattle.docket_rules.specs.Calls.{Call, Open, Post, Close, Discharge}
 use Rattle.docket_rules.specs.Logs.{Log, Opening, no_log, still_due}
 use Rattle.docket_rules.specs.Promise.{ByRules}
 use Rattle.docket_rules.specs.Reached.{ReachedByCalls}
-use Rattle.docket_rules.specs.Tables.{Answer}
-use Rattle.docket_rules.specs.Worlds.{World}
+use Rattle.docket_rules.specs.Tables.{Answer, Given, given, initial_tokens}
+use Rattle.docket_rules.specs.Worlds.{World, book_cells, book_places}
+use Rattle.zone_cells.specs.Sizes.{draft_cells}
+use Rattle.zones.specs.Zones.{Zone}
+
+-- ---- the line and the certificate
+abbrev pub line_net : Handover → Net PlainBound
+line_net line = handover_net line.lower line.upper
+
+abbrev pub given_by : Certificate → Given
+given_by c = given c.places.now c.ages.now
+
+abbrev pub target_of : Certificate → Zone PlainBound
+target_of c = zone_of plain_kind c.target.now
+
+abbrev pub opening_of : Certificate → Opening PlainBound
+opening_of c = record { initial = initial_tokens (given_by c); target = target_of c }
+
+-- where the runs start that are to miss the target
+abbrev pub initial_marking : Certificate → Marking
+initial_marking c = marking_of (initial_tokens (given_by c))
 
 -- ---- what the entries before one have given
-abbrev pub opening_of : Certificate → Opening PlainBound
-opening_of c = record { initial = marking_of (initial_tokens c.places.now c.ages.now); target = zone_of plain_kind c.target.now }
-
 -- the opening and so many zones
 abbrev pub listing : Certificate → ℕ → Log PlainBound
 listing c n = record { opening = Some (opening_of c); listed = map (zone_of plain_kind) (take n c.zones.now); closed = false; taken = 0 }
@@ -49,10 +67,10 @@ MayBeRefused c (Voucher n) = n < length c.vouchers.now
 
 -- ---- the call for an entry, with its answer; it is lent a scratch page of no limits
 abbrev pub blank_page : List PlainBound
-blank_page = replicate 169 plain_kind.no_limit
+blank_page = replicate draft_cells plain_kind.no_limit
 
 abbrev pub call_for : Certificate → Entry → Answer → Call PlainBound
-call_for c InOpening answer = Open c.places.now c.ages.now c.target.now blank_page answer
+call_for c InOpening answer = Open (given_by c) c.target.now blank_page answer
 call_for c (Zone n) answer = Post (slice_index_or c.zones.now n []) blank_page answer
 call_for c ListEnd answer = Close answer
 call_for c (Voucher n) answer = Discharge (slice_index_or c.vouchers.now n []) blank_page answer
@@ -65,8 +83,8 @@ at_entry entry (Err refusal) = Err (record { entry = entry; refusal = refusal })
 -- calls from the blank docket lead here, over a book of the stated lengths, and this is the log of them
 pub record EntryStands (net : Net PlainBound) (log : Log PlainBound) (w : World PlainBound) : Type 0 where
   pub reached : ReachedByCalls plain_kind net log w
-  pub cells : length w.cells ≡ 5184
-  pub places : length w.places ≡ 512
+  pub cells : length w.cells ≡ book_cells
+  pub places : length w.places ≡ book_places
 
 abbrev pub check_verdict : List Item → Verdict
 check_verdict [] = Sealed

@@ -1,14 +1,16 @@
 // A certificate that no run of a line covers a target, as a solver gives it.
 
+/// The opening, the listed zones and the vouchers, each as a docket is given them.
 #[derive(Clone, Copy)]
 pub struct Certificate<'a> {
-    // a place for each initial token, and its age
+    /// A place for each initial token.
     pub places: &'a [u8],
+    /// An age for each initial token.
     pub ages: &'a [u16],
-    // the record of the target's zone
+    /// The record of the target's zone.
     pub target: &'a [u8],
-    // the records of the listed zones
+    /// The records of the listed zones.
     pub zones: &'a [[u8; 192]],
-    // a voucher for each item that is due, in due order
+    /// A voucher for each item that is due, in due order.
     pub vouchers: &'a [[u8; 6]],
 }

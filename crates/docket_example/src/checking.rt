@@ -1,12 +1,8 @@
 // The check of a certificate: one docket, from the blank one through a call for each entry.
 ghost use Rattle.bounds.specs.PlainKind.{plain_kind};
-ghost use Rattle.docket_records.specs.ZoneRecords.{zone_of};
-ghost use Rattle.net_handover.specs.HandoverNet.{handover_net};
-ghost use Rattle.docket_example.specs.Checking.{Checked, at_entry};
-ghost use Rattle.zone_markings.specs.Initial.{marking_of};
-ghost use Rattle.docket_rules.specs.Calls.{initial_tokens};
+ghost use Rattle.docket_example.specs.Checking.{Checked, at_entry, initial_marking, line_net, target_of};
 ghost use Rattle.std.specs.Prelude.{◌≡◌};
-ghost use Rattle.zones.specs.Safety.{Safe};
+ghost use Rattle.zones.specs.Safety.{Safe, starts_at};
 
 use crate::certificate::Certificate;
 use bounds::{Bound, PlainBound};
@@ -18,30 +14,34 @@ use net_handover::Handover;
 use nets::NetStore;
 use zone_drafts::draft::DRAFT_CELLS;
 
-// What a certificate comes to whose entries are all taken.
+/// What a certificate comes to whose entries are all taken.
 #[derive(Clone, Copy, PartialEq, Eq, Debug)]
 pub enum Verdict {
-    // no run of the line covers the target
+    /// No run of the line covers the target.
     Sealed,
-    // the vouchers end before this item
+    /// The vouchers end before this item.
     StillDue(Item),
 }
 
-// An entry of a certificate; zones and vouchers by their index in it, from 0.
+/// An entry of a certificate; zones and vouchers by their index in it, from 0.
 #[derive(Clone, Copy, PartialEq, Eq, Debug)]
 pub enum Entry {
-    // the initial marking and the target
+    /// The initial marking and the target.
     Opening,
+    /// A listed zone.
     Zone(usize),
-    // the end of the list of zones, which is never refused
+    /// The end of the list of zones, which is never refused.
     ListEnd,
+    /// A voucher.
     Voucher(usize),
 }
 
-// The first entry that is refused, and why.
+/// The first entry that is refused, and why.
 #[derive(Clone, Copy, PartialEq, Eq, Debug)]
 pub struct Refused {
+    /// Which one.
     pub entry: Entry,
+    /// The docket's answer to its call.
     pub refusal: CallRefusal,
 }
 
@@ -52,10 +52,14 @@ fn at(entry: Entry, answer: Result<(), CallRefusal>) -> Result<(), Refused>
     answer.map_err(|refusal| Refused { entry, refusal })
 }
 
-// Gives each entry to a blank docket, in order, and says what they come to.
+/// Gives each entry to a blank docket, in order, and says what they come to.
 pub fn check(line: &Handover, certificate: &Certificate<'_>) -> Result<Verdict, Refused>
-    ensures seal { result ≡ Ok Verdict.Sealed → Safe plain_kind (handover_net line.now.lower line.now.upper) (marking_of (initial_tokens certificate.now.places.now certificate.now.ages.now)) (zone_of plain_kind certificate.now.target.now) }
-    ensures exact { Checked (handover_net line.now.lower line.now.upper) certificate.now result }
+    ensures seal {
+        result ≡ Ok Verdict.Sealed →
+        Safe plain_kind (line_net line.now) (starts_at (initial_marking certificate.now))
+        (target_of certificate.now)
+    }
+    ensures exact { Checked (line_net line.now) certificate.now result }
 {
     // These two do nothing: what they ensure is what a docket promises over this store.
     line.keeps_limits();

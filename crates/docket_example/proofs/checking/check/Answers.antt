@@ -1,39 +1,39 @@
 use Rattle.std.proofs.Common.{◌≡◌, length, replicate, refl, ap, subst, arith}
 use Rattle.std.proofs.lemmas.Result.{err_from_is_err_and}
-use Rattle.docket_rules.specs.Worlds.{with_book}
-use Rattle.net_handover.specs.HandoverNet.{handover_net}
-use Rattle.docket_example.specs.Checking.{EntryStands, listing, proving}
+use Rattle.docket_rules.specs.Worlds.{book_cells, book_places, with_book}
+use Rattle.zone_cells.specs.Sizes.{draft_cells}
+use Rattle.docket_example.specs.Checking.{EntryStands, line_net, listing, proving}
 use Rattle.docket_example.specs.declared.checking.Entry.TheVariants.{Opening, Zone, ListEnd, Voucher}
 use Rattle.docket_example.proofs.Entries.{begun, discharge_step, end_taken, ended_due, ended_sealed, gone_on, left_blank, list_ended, open_step, post_step, seal_holds, stopped, zone_listed}
 use Rattle.docket_example.proofs.checking.check.Goals as goal
 
 pub returns-in_err-at-clause-exact : goal.returns-in_err-at-clause-exact
 returns-in_err-at-clause-exact c =
-    let net = handover_net c.args.line.now.lower c.args.line.now.upper in
+    let net = line_net c.args.line.now in
     let given = c.args.certificate.now in
-    let w = with_book c.new-docket.result (replicate 5184 c.no_limit-cells.result) (replicate 512 0) in
+    let w = with_book c.new-docket.result (replicate book_cells c.no_limit-cells.result) (replicate book_places 0) in
     let v = with_book c.open-opened.new.self c.open-opened.new.cells c.open-opened.new.places in
     let p = err_from_is_err_and c.from_residual.result c.from_residual.ensures.1 in
     let s = begun net given w.state c.no_limit-cells.result c.new-docket.ensures in
-    let lent = ap (replicate 169) c.no_limit-scratch.ensures in
-    rw (p.1, p.2) (stopped net given (c.seals_keep_promises.ensures net c.keeps_limits.ensures) Opening w v c.open-opened.result c.in_err-at.field-0.0 tt c.in_err-at.ensures s (open_step net given w v (replicate 169 c.no_limit-scratch.result) c.open-opened.new.scratch c.open-opened.result lent c.open-opened.ensures))
+    let lent = ap (replicate draft_cells) c.no_limit-scratch.ensures in
+    rw (p.1, p.2) (stopped net given (c.seals_keep_promises.ensures net c.keeps_limits.ensures) Opening w v c.open-opened.result c.in_err-at.field-0.0 tt c.in_err-at.ensures s (open_step net given w v (replicate draft_cells c.no_limit-scratch.result) c.open-opened.new.scratch c.open-opened.result lent (record { answers = c.open-opened.ensures.answers; scratch = c.open-opened.ensures.scratch; refused = c.open-opened.ensures.refused; taken = c.open-opened.ensures.taken })))
 
 pub loop-number-init : goal.loop-number-init
 loop-number-init c =
-    let net = handover_net c.args.line.now.lower c.args.line.now.upper in
+    let net = line_net c.args.line.now in
     let given = c.args.certificate.now in
-    let w = with_book c.new-docket.result (replicate 5184 c.no_limit-cells.result) (replicate 512 0) in
+    let w = with_book c.new-docket.result (replicate book_cells c.no_limit-cells.result) (replicate book_places 0) in
     let v = with_book c.open-opened.new.self c.open-opened.new.cells c.open-opened.new.places in
     let s = begun net given w.state c.no_limit-cells.result c.new-docket.ensures in
-    let lent = ap (replicate 169) c.no_limit-scratch.ensures in
+    let lent = ap (replicate draft_cells) c.no_limit-scratch.ensures in
     record {
-      stands = gone_on net given Opening w v c.open-opened.result c.in_ok-at.field-0 c.in_ok-at.ensures c.open-opened.auto.cells c.open-opened.auto.places s (open_step net given w v (replicate 169 c.no_limit-scratch.result) c.open-opened.new.scratch c.open-opened.result lent c.open-opened.ensures);
-      lent = left_blank c.open-opened.result (replicate 169 c.no_limit-scratch.result) c.open-opened.new.scratch lent c.open-opened.ensures.scratch;
+      stands = gone_on net given Opening w v c.open-opened.result c.in_ok-at.field-0 c.in_ok-at.ensures c.open-opened.auto.cells c.open-opened.auto.places s (open_step net given w v (replicate draft_cells c.no_limit-scratch.result) c.open-opened.new.scratch c.open-opened.result lent (record { answers = c.open-opened.ensures.answers; scratch = c.open-opened.ensures.scratch; refused = c.open-opened.ensures.refused; taken = c.open-opened.ensures.taken }));
+      lent = left_blank c.open-opened.result (replicate draft_cells c.no_limit-scratch.result) c.open-opened.new.scratch lent c.open-opened.ensures.scratch;
     }
 
 pub returns-in_err-at-2-clause-exact : goal.returns-in_err-at-2-clause-exact
 returns-in_err-at-2-clause-exact c =
-    let net = handover_net c.args.line.now.lower c.args.line.now.upper in
+    let net = line_net c.args.line.now in
     let given = c.args.certificate.now in
     let at = c.loop-number in
     let w = with_book at.docket at.cells at.book in
@@ -43,7 +43,7 @@ returns-in_err-at-2-clause-exact c =
 
 pub loop-number-preserved : goal.loop-number-preserved
 loop-number-preserved c =
-    let net = handover_net c.args.line.now.lower c.args.line.now.upper in
+    let net = line_net c.args.line.now in
     let given = c.args.certificate.now in
     let at = c.loop-number in
     let w = with_book at.docket at.cells at.book in
@@ -57,14 +57,14 @@ loop-number-preserved c =
 
 pub returns-in_err-at-3-clause-exact : goal.returns-in_err-at-3-clause-exact
 returns-in_err-at-3-clause-exact c =
-    let net = handover_net c.args.line.now.lower c.args.line.now.upper in
+    let net = line_net c.args.line.now in
     let at = c.loop-number in
     let w = with_book at.docket at.cells at.book in
     end_taken net c.args.certificate.now (c.seals_keep_promises.ensures net c.keeps_limits.ensures) at.number w (with_book c.close.new.self at.cells at.book) c.close.result c.in_err-at-3.field-0.0 c.in_err-at-3.ensures at.invariant.stands c.close.ensures
 
 pub loop-taken-init : goal.loop-taken-init
 loop-taken-init c =
-    let net = handover_net c.args.line.now.lower c.args.line.now.upper in
+    let net = line_net c.args.line.now in
     let given = c.args.certificate.now in
     let at = c.loop-number in
     let w = with_book at.docket at.cells at.book in
@@ -72,35 +72,35 @@ loop-taken-init c =
     let all : at.number ≡ length given.zones.now = omega (arith, at.auto.number-end, c.loop-number-test.false) in
     let s = subst (λ n. EntryStands net (listing given n) w) all at.invariant.stands in
     record {
-      stands = subst (λ log. EntryStands net log v) (list_ended net given) (gone_on net given ListEnd w v c.close.result c.in_ok-at-3.field-0 c.in_ok-at-3.ensures refl refl s (c.close.ensures, refl, refl));
+      stands = subst (λ log. EntryStands net log v) (list_ended net given) (gone_on net given ListEnd w v c.close.result c.in_ok-at-3.field-0 c.in_ok-at-3.ensures refl refl s (c.close.ensures, record { cells = refl; places = refl }));
       lent = at.invariant.lent;
     }
 
 pub returns-in_err-at-4-clause-exact : goal.returns-in_err-at-4-clause-exact
 returns-in_err-at-4-clause-exact c =
-    let net = handover_net c.args.line.now.lower c.args.line.now.upper in
+    let net = line_net c.args.line.now in
     let given = c.args.certificate.now in
     let at = c.loop-taken in
     let w = with_book at.docket c.loop-number.cells c.loop-number.book in
     let v = with_book c.discharge-discharged.new.self c.loop-number.cells c.loop-number.book in
     let p = err_from_is_err_and c.from_residual-in_err-at-4.result c.from_residual-in_err-at-4.ensures.1 in
-    rw (p.1, p.2) (stopped net given c.discharge-discharged.ensures.promise (Voucher at.taken) w v c.discharge-discharged.result c.in_err-at-4.field-0.0 c.loop-taken-test.true c.in_err-at-4.ensures at.invariant.stands (discharge_step net given at.taken w v at.scratch c.discharge-discharged.new.scratch c.discharge-discharged.result at.invariant.lent c.discharge-discharged.ensures.step))
+    rw (p.1, p.2) (stopped net given c.discharge-discharged.ensures.promise (Voucher at.taken) w v c.discharge-discharged.result c.in_err-at-4.field-0.0 c.loop-taken-test.true c.in_err-at-4.ensures at.invariant.stands (discharge_step net given at.taken w v.state at.scratch c.discharge-discharged.new.scratch c.discharge-discharged.result at.invariant.lent c.discharge-discharged.ensures.step))
 
 pub loop-taken-preserved : goal.loop-taken-preserved
 loop-taken-preserved c =
-    let net = handover_net c.args.line.now.lower c.args.line.now.upper in
+    let net = line_net c.args.line.now in
     let given = c.args.certificate.now in
     let at = c.loop-taken in
     let w = with_book at.docket c.loop-number.cells c.loop-number.book in
     let v = with_book c.discharge-discharged.new.self c.loop-number.cells c.loop-number.book in
     record {
-      stands = gone_on net given (Voucher at.taken) w v c.discharge-discharged.result c.in_ok-at-4.field-0 c.in_ok-at-4.ensures refl refl at.invariant.stands (discharge_step net given at.taken w v at.scratch c.discharge-discharged.new.scratch c.discharge-discharged.result at.invariant.lent c.discharge-discharged.ensures.step);
+      stands = gone_on net given (Voucher at.taken) w v c.discharge-discharged.result c.in_ok-at-4.field-0 c.in_ok-at-4.ensures refl refl at.invariant.stands (discharge_step net given at.taken w v.state at.scratch c.discharge-discharged.new.scratch c.discharge-discharged.result at.invariant.lent c.discharge-discharged.ensures.step);
       lent = left_blank c.discharge-discharged.result at.scratch c.discharge-discharged.new.scratch at.invariant.lent c.discharge-discharged.ensures.step.scratch;
     }
 
 pub returns-in-Some-clause-exact : goal.returns-in-Some-clause-exact
 returns-in-Some-clause-exact c =
-    let net = handover_net c.args.line.now.lower c.args.line.now.upper in
+    let net = line_net c.args.line.now in
     let given = c.args.certificate.now in
     let at = c.loop-taken in
     let w = with_book at.docket c.loop-number.cells c.loop-number.book in
@@ -110,7 +110,7 @@ returns-in-Some-clause-exact c =
 
 pub returns-in-None-clause-seal : goal.returns-in-None-clause-seal
 returns-in-None-clause-seal c =
-    let net = handover_net c.args.line.now.lower c.args.line.now.upper in
+    let net = line_net c.args.line.now in
     let given = c.args.certificate.now in
     let at = c.loop-taken in
     let w = with_book at.docket c.loop-number.cells c.loop-number.book in
@@ -120,7 +120,7 @@ returns-in-None-clause-seal c =
 
 pub returns-in-None-clause-exact : goal.returns-in-None-clause-exact
 returns-in-None-clause-exact c =
-    let net = handover_net c.args.line.now.lower c.args.line.now.upper in
+    let net = line_net c.args.line.now in
     let given = c.args.certificate.now in
     let at = c.loop-taken in
     let w = with_book at.docket c.loop-number.cells c.loop-number.book in

@@ -15,8 +15,8 @@ use Rattle.docket_example.specs.declared.checking.Verdict.TheVariants.{Sealed, S
 use Rattle.nets.specs.Nets.{Net}
 use Rattle.docket_rules.proofs.Reaching.{reached_blank, reached_kept, reached_step}
 use Rattle.docket_rules.specs.Calls.{Closes, Left, Opens, Posts, Discharges, Step, is_early, next_due_of}
-use Rattle.docket_rules.specs.Logs.{Log, no_log, still_due, with_call}
-use Rattle.docket_rules.specs.Promise.{Kept, Promise, proving_stage}
+use Rattle.docket_rules.specs.Logs.{Log, no_log, proving_stage, still_due, with_call}
+use Rattle.docket_rules.specs.Promise.{Kept, Promise}
 use Rattle.docket_rules.specs.Reached.{ReachedByCalls}
 use Rattle.docket_rules.specs.Tables.{Answer, is_listing}
 use Rattle.docket_rules.specs.Worlds.{State, World, blank, book_cells, book_places, with_book, with_scratch}
@@ -85,7 +85,7 @@ module _ (net : Net PlainBound) (c : Certificate) where
   pub end_taken : {X : Type 0} → Promise plain_kind net → (n : ℕ) (w v : World PlainBound) (answer : Answer) (x : Refused) → Err x ≡ at_entry ListEnd answer → EntryStands net (listing c n) w → Closes w.state v.state answer → X
   end_taken promise n w v (Ok u) x is s closes = absurd (true≢false (ap is_err is))
   end_taken promise n w v (Err r) x is s closes =
-      let listed : is_listing w.state.stage ≡ true = ap is_listing (reached_kept plain_kind net (listing c n) w promise s.reached).stage in
+      let listed : is_listing w.state.stage ≡ true = ap (λ t. is_listing t.stage) (reached_kept plain_kind net (listing c n) w promise s.reached).state in
       ⊎_elim (λ p. absurd (true≢false (sym listed ∙ p.0))) (λ p. absurd (true≢false (ap is_err p.1))) closes.answers
 
   -- ---- what the entries up to one have given
@@ -114,14 +114,17 @@ module _ (net : Net PlainBound) (c : Certificate) where
     kept : Kept plain_kind net ended w
     kept = reached_kept plain_kind net ended w promise s.reached
 
+    stage : w.state.stage ≡ proving_stage (still_due net ended)
+    stage = ap (λ t. t.stage) kept.state
+
     pub ended_due : (d : Item) → Some d ≡ next_due_of w.state.stage → CallsEnded net c (StillDue d)
-    ended_due d e = record { world = w; stands = s; said = said_due (still_due net ended) d (e ∙ ap next_due_of kept.stage) }
+    ended_due d e = record { world = w; stands = s; said = said_due (still_due net ended) d (e ∙ ap next_due_of stage) }
 
     none_due : None ≡ next_due_of w.state.stage → still_due net ended ≡ []
-    none_due e = said_sealed (still_due net ended) (e ∙ ap next_due_of kept.stage)
+    none_due e = said_sealed (still_due net ended) (e ∙ ap next_due_of stage)
 
     pub ended_sealed : None ≡ next_due_of w.state.stage → CallsEnded net c Sealed
     ended_sealed e = record { world = w; stands = s; said = ap check_verdict (sym (none_due e)) }
 
     pub seal_holds : None ≡ next_due_of w.state.stage → Safe plain_kind net (starts_at (initial_marking c)) (target_of c)
-    seal_holds e = kept.truth (kept.stage ∙ ap proving_stage (none_due e))
+    seal_holds e = kept.truth (stage ∙ ap proving_stage (none_due e))

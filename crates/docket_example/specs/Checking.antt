@@ -11,7 +11,7 @@ use Rattle.docket_dues.specs.declared.item.Item.{Item}
 use Rattle.docket_records.specs.ZoneRecords.{zone_of}
 use Rattle.docket_example.specs.declared.certificate.Certificate.{Certificate}
 use Rattle.docket_example.specs.declared.checking.Entry.{Entry}
-use Rattle.docket_example.specs.declared.checking.Entry.TheVariants.{Opening as InOpening, Zone, ListEnd, Voucher}
+use Rattle.docket_example.specs.declared.checking.Entry.TheVariants.{Opening as InOpening, Zone as InZone, ListEnd, Voucher}
 use Rattle.docket_example.specs.declared.checking.Refused.{Refused}
 use Rattle.docket_example.specs.declared.checking.Verdict.{Verdict}
 use Rattle.docket_example.specs.declared.checking.Verdict.TheVariants.{Sealed, StillDue}
@@ -54,14 +54,14 @@ proving c n = record { opening = Some (opening_of c); listed = map (zone_of plai
 
 abbrev pub log_before : Certificate → Entry → Log PlainBound
 log_before c InOpening = no_log
-log_before c (Zone n) = listing c n
+log_before c (InZone n) = listing c n
 log_before c ListEnd = listing c (length c.zones.now)
 log_before c (Voucher n) = proving c n
 
 -- the entries that there are; the end of the list is never refused
 abbrev pub MayBeRefused : Certificate → Entry → Type 0
 MayBeRefused c InOpening = Unit {0}
-MayBeRefused c (Zone n) = n < length c.zones.now
+MayBeRefused c (InZone n) = n < length c.zones.now
 MayBeRefused c ListEnd = ⊥
 MayBeRefused c (Voucher n) = n < length c.vouchers.now
 
@@ -71,7 +71,7 @@ blank_page = replicate draft_cells plain_kind.no_limit
 
 abbrev pub call_for : Certificate → Entry → Answer → Call PlainBound
 call_for c InOpening answer = Open (given_by c) c.target.now blank_page answer
-call_for c (Zone n) answer = Post (slice_index_or c.zones.now n []) blank_page answer
+call_for c (InZone n) answer = Post (slice_index_or c.zones.now n []) blank_page answer
 call_for c ListEnd answer = Close answer
 call_for c (Voucher n) answer = Discharge (slice_index_or c.vouchers.now n []) blank_page answer
 

@@ -54,11 +54,9 @@ fn at(entry: Entry, answer: Result<(), CallRefusal>) -> Result<(), Refused>
 
 /// Gives each entry to a blank docket, in order, and says what they come to.
 pub fn check(line: &Handover, certificate: &Certificate<'_>) -> Result<Verdict, Refused>
-    ensures seal {
-        result ≡ Ok Verdict.Sealed →
+    ensures seal { result ≡ Ok Verdict.Sealed →
         Safe plain_kind (line_net line.now) (starts_at (initial_marking certificate.now))
-        (target_of certificate.now)
-    }
+        (target_of certificate.now) }
     ensures exact { Checked (line_net line.now) certificate.now result }
 {
     // These two do nothing: what they ensure is what a docket promises over this store.

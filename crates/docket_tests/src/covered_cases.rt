@@ -3,8 +3,9 @@ use crate::faults::number_under;
 use crate::fixture::{Call, Fixture};
 use crate::stages::{BOTH_IN_1, two_carriers};
 use bounds::{Bound, MarkedBound, PlainBound};
-use std::alloc::{AllocError, Global};
+use std::alloc::Global;
 use std::process::Abort;
+use std::test::Fail;
 use test_records::zone_bytes::*;
 
 // The number under plain and under marked kind; 0 where the zone is taken.
@@ -64,7 +65,7 @@ fn check_rows<B: Bound + PartialEq>(
     places: &[u8],
     ages: &[u16],
     rows: &[Row],
-) -> Result<(), AllocError> {
+) -> Result<(), Fail> {
     let bytes = two_carriers(heap)?;
     let mut line: Fixture<'_, B> = Fixture::blank(heap, &bytes)?;
     let target = record(heap, &BOTH_IN_1, &[])?;
@@ -78,7 +79,7 @@ fn check_rows<B: Bound + PartialEq>(
     line.gives(rt, Call::Post(&record(heap, &[0], &[])?), 26)
 }
 
-fn check_tables<B: Bound + PartialEq>(rt: &impl Abort, heap: Global) -> Result<(), AllocError> {
+fn check_tables<B: Bound + PartialEq>(rt: &impl Abort, heap: Global) -> Result<(), Fail> {
     check_rows::<B>(rt, heap, 1, &[0], &[2], &ONE)?;
     check_rows::<B>(rt, heap, 2, &[0, 0], &[2, 4], &TWO_IN_0)?;
     check_rows::<B>(rt, heap, 2, &[0, 0], &[4, 2], &TWO_IN_0)?;
@@ -86,11 +87,11 @@ fn check_tables<B: Bound + PartialEq>(rt: &impl Abort, heap: Global) -> Result<(
 }
 
 #[test]
-fn plain_zones_that_the_marking_satisfies(rt: HostRuntime) -> Result<(), AllocError> {
+fn plain_zones_that_the_marking_satisfies(rt: HostRuntime) -> Result<(), Fail> {
     check_tables::<PlainBound>(&rt, rt.alloc())
 }
 
 #[test]
-fn marked_zones_that_the_marking_satisfies(rt: HostRuntime) -> Result<(), AllocError> {
+fn marked_zones_that_the_marking_satisfies(rt: HostRuntime) -> Result<(), Fail> {
     check_tables::<MarkedBound>(&rt, rt.alloc())
 }

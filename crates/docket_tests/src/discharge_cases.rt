@@ -3,8 +3,9 @@ use crate::due_cases::item;
 use crate::fixture::{Call, Fixture};
 use crate::stages::*;
 use bounds::{Bound, MarkedBound, PlainBound};
-use std::alloc::{AllocError, Global};
+use std::alloc::Global;
 use std::process::Abort;
+use std::test::Fail;
 use test_records::zone_bytes::*;
 
 // How many of the bytes are given where the target is due, and the number. The target's tokens stand in place 1, of any age. Listed
@@ -70,7 +71,7 @@ fn five_listed<'a, B: Bound + PartialEq>(
     rt: &impl Abort,
     heap: Global,
     bytes: &'a [u8],
-) -> Result<Fixture<'a, B>, AllocError> {
+) -> Result<Fixture<'a, B>, Fail> {
     let mut line: Fixture<'_, B> = line_at(rt, heap, bytes, Stage::Listing)?;
     let young = [(1, 0, 5)];
     line.gives(rt, Call::Post(&record(heap, &BOTH_IN_1, &young)?), 0)?;
@@ -78,7 +79,7 @@ fn five_listed<'a, B: Bound + PartialEq>(
     Ok(line)
 }
 
-fn first_bytes(heap: Global, bytes: [u8; 7], length: u8) -> Result<Vec<u8>, AllocError> {
+fn first_bytes(heap: Global, bytes: [u8; 7], length: u8) -> Result<Vec<u8>, Fail> {
     let mut first = Vec::from_slice(heap, &bytes)?;
     first.truncate(usize::from(length));
     Ok(first)
@@ -89,7 +90,7 @@ fn check_rows<B: Bound + PartialEq>(
     rt: &impl Abort,
     line: &mut Fixture<'_, B>,
     is_proving: bool,
-) -> Result<(), AllocError> {
+) -> Result<(), Fail> {
     for (length, bytes, number) in AT_TARGET {
         let voucher = first_bytes(line.heap, bytes, length)?;
         let (refusal, not_whole) = if is_proving { (number, 41) } else { (40, 40) };
@@ -98,7 +99,7 @@ fn check_rows<B: Bound + PartialEq>(
     Ok(())
 }
 
-fn check_stages<B: Bound + PartialEq>(rt: &impl Abort, heap: Global) -> Result<(), AllocError> {
+fn check_stages<B: Bound + PartialEq>(rt: &impl Abort, heap: Global) -> Result<(), Fail> {
     let bytes = two_carriers(heap)?;
     for stage in [Stage::Blank, Stage::Listing, Stage::Full, Stage::Sealed] {
         let mut line: Fixture<'_, B> = line_at(rt, heap, &bytes, stage)?;
@@ -116,12 +117,12 @@ fn check_stages<B: Bound + PartialEq>(rt: &impl Abort, heap: Global) -> Result<(
 }
 
 #[test]
-fn plain_vouchers_are_refused_by_number(rt: HostRuntime) -> Result<(), AllocError> {
+fn plain_vouchers_are_refused_by_number(rt: HostRuntime) -> Result<(), Fail> {
     check_stages::<PlainBound>(&rt, rt.alloc())
 }
 
 #[test]
-fn marked_vouchers_are_refused_by_number(rt: HostRuntime) -> Result<(), AllocError> {
+fn marked_vouchers_are_refused_by_number(rt: HostRuntime) -> Result<(), Fail> {
     check_stages::<MarkedBound>(&rt, rt.alloc())
 }
 
@@ -210,7 +211,7 @@ fn one_token<'a, B: Bound + PartialEq>(
     heap: Global,
     bytes: &'a [u8],
     zones: &[[Listed; 2]],
-) -> Result<Fixture<'a, B>, AllocError> {
+) -> Result<Fixture<'a, B>, Fail> {
     let mut line: Fixture<'_, B> = Fixture::blank(heap, bytes)?;
     for (number, listed) in zones.iter().enumerate() {
         let zone = record(heap, &ONE_IN_1, listed)?;
@@ -230,7 +231,7 @@ fn check_steps<B: Bound + PartialEq>(
     heap: Global,
     zones: &[[Listed; 2]],
     steps: &[Step],
-) -> Result<(), AllocError> {
+) -> Result<(), Fail> {
     let bytes = two_carriers(heap)?;
     let mut line: Fixture<'_, B> = one_token(rt, heap, &bytes, zones)?;
     for (due, voucher, number) in steps {
@@ -241,7 +242,7 @@ fn check_steps<B: Bound + PartialEq>(
 }
 
 #[test]
-fn an_old_token_was_not_just_put_there(rt: HostRuntime) -> Result<(), AllocError> {
+fn an_old_token_was_not_just_put_there(rt: HostRuntime) -> Result<(), Fail> {
     let old = [(1, 0, NO_LIMIT), (0, 1, MINUS_1)];
     let any = [(1, 0, NO_LIMIT), (0, 1, NO_LIMIT)];
     let zones = [old, old, any];
@@ -250,7 +251,7 @@ fn an_old_token_was_not_just_put_there(rt: HostRuntime) -> Result<(), AllocError
 }
 
 #[test]
-fn strict_bounds_vouch_for_less(rt: HostRuntime) -> Result<(), AllocError> {
+fn strict_bounds_vouch_for_less(rt: HostRuntime) -> Result<(), Fail> {
     let up_to_2 = [(1, 0, 2), (0, 1, NO_LIMIT)];
     let above_0 = [(1, 0, 2), (0, 1, STRICT_0)];
     let below_2 = [(1, 0, BELOW_2), (0, 1, NO_LIMIT)];

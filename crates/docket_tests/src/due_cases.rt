@@ -42,7 +42,7 @@ pub fn item(listed: (u8, u8, u16)) -> Item {
 #[test]
 fn ten_items_are_due(rt: HostRuntime) -> Result<(), Fail> {
     let bytes = two_carriers(rt.alloc())?;
-    let store = PackedNet::new(&bytes);
+    let store = PackedNet::read(&bytes).ok().ok_or("no net")?;
     let followers = ITEMS.iter().skip(1).map(|later| Some(item(*later)));
     for (listed, later) in ITEMS.iter().zip(followers.chain([None])) {
         let due = item(*listed);

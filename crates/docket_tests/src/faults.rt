@@ -1,7 +1,8 @@
 // What is wrong with a zone's record: each fault brings about one condition, whatever the others do.
 use Fault::*;
 use bounds::Bound;
-use std::alloc::{AllocError, Global};
+use std::alloc::Global;
+use std::test::Fail;
 use test_records::zone_bytes::{ABOVE_1, MARKED_NO_LIMIT, MINUS_1, NO_LIMIT, record};
 
 #[derive(Clone, Copy, PartialEq, Eq, Debug)]
@@ -61,7 +62,7 @@ impl Form {
 }
 
 // The record of one token in place 1 of any age, with these faults.
-pub fn faulty(heap: Global, faults: [Fault; 2]) -> Result<Vec<u8>, AllocError> {
+pub fn faulty(heap: Global, faults: [Fault; 2]) -> Result<Vec<u8>, Fail> {
     let mut form = Form {
         header: [1, 0x04, 0, 0, 0, 0, 0, 0, 0, 0, 0, 0],
         upper: NO_LIMIT,

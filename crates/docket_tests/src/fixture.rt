@@ -5,8 +5,9 @@ use docket_dues::Item;
 use docket_refusals::CallRefusal;
 use net_records::fault::Refusal;
 use net_records::packed::PackedNet;
-use std::alloc::{AllocError, Global};
+use std::alloc::Global;
 use std::process::Abort;
+use std::test::Fail;
 use zone_drafts::draft::DRAFT_CELLS;
 
 // How many cells and places of the book, and cells of the scratch page, a call is lent.
@@ -69,7 +70,7 @@ struct Kept<B> {
 }
 
 // The scratch page, all of one bound, and the cell after it, which no call reaches.
-fn scratch_of<B: Bound>(heap: Global, bound: B) -> Result<Vec<B>, AllocError> {
+fn scratch_of<B: Bound>(heap: Global, bound: B) -> Result<Vec<B>, Fail> {
     let mut cells = Vec::new(heap);
     cells.resize(DRAFT_CELLS, bound)?;
     cells.push(B::zero())?;
@@ -78,7 +79,7 @@ fn scratch_of<B: Bound>(heap: Global, bound: B) -> Result<Vec<B>, AllocError> {
 
 impl<'a, B: Bound + PartialEq> Fixture<'a, B> {
     // A blank docket, whose book has another number in each cell.
-    pub fn blank(heap: Global, bytes: &'a [u8]) -> Result<Fixture<'a, B>, AllocError> {
+    pub fn blank(heap: Global, bytes: &'a [u8]) -> Result<Fixture<'a, B>, Fail> {
         let mut cells = Vec::new(heap);
         for number in 0..5185 {
             cells.push(bound_of(number, false))?;
@@ -90,7 +91,7 @@ impl<'a, B: Bound + PartialEq> Fixture<'a, B> {
         Ok(Fixture {
             heap,
             docket: Docket::new(),
-            store: PackedNet::new(bytes),
+            store: PackedNet::read(bytes).ok().ok_or("no net")?,
             cells,
             places,
             scratch: scratch_of(heap, B::zero())?,
@@ -115,7 +116,7 @@ impl<'a, B: Bound + PartialEq> Fixture<'a, B> {
         }
     }
 
-    fn kept(&self) -> Result<Kept<B>, AllocError> {
+    fn kept(&self) -> Result<Kept<B>, Fail> {
         Ok(Kept {
             answers: answers(&self.docket),
             cells: self.cells.as_slice().to_vec(self.heap)?,
@@ -139,7 +140,7 @@ impl<'a, B: Bound + PartialEq> Fixture<'a, B> {
     }
 
     // All cells of the scratch page are this bound, and the one after it is what it was.
-    fn check_scratch(&self, rt: &impl Abort, bound: B, call: Call<'_>) -> Result<(), AllocError> {
+    fn check_scratch(&self, rt: &impl Abort, bound: B, call: Call<'_>) -> Result<(), Fail> {
         let left = scratch_of(self.heap, bound)?;
         assert!(rt;
             self.scratch.as_slice() == left.as_slice(),
@@ -149,7 +150,7 @@ impl<'a, B: Bound + PartialEq> Fixture<'a, B> {
     }
 
     // A call that is taken. Close is lent nothing; every other one leaves no limit in the scratch page.
-    fn takes(&mut self, rt: &impl Abort, call: Call<'_>) -> Result<(), AllocError> {
+    fn takes(&mut self, rt: &impl Abort, call: Call<'_>) -> Result<(), Fail> {
         self.scratch = scratch_of(self.heap, B::zero())?;
         let answer = self.call(WHOLE, call);
         assert_eq!(rt; number(answer), None, "{call:?}");
@@ -169,7 +170,7 @@ impl<'a, B: Bound + PartialEq> Fixture<'a, B> {
         lent: Lent,
         call: Call<'_>,
         refusal: u8,
-    ) -> Result<(), AllocError> {
+    ) -> Result<(), Fail> {
         self.scratch = scratch_of(self.heap, B::zero())?;
         let kept = self.kept()?;
         let answer = self.call(lent, call);
@@ -184,12 +185,7 @@ impl<'a, B: Bound + PartialEq> Fixture<'a, B> {
     }
 
     // A call that is refused with this number; taken where it is 0.
-    pub fn gives(
-        &mut self,
-        rt: &impl Abort,
-        call: Call<'_>,
-        refusal: u8,
-    ) -> Result<(), AllocError> {
+    pub fn gives(&mut self, rt: &impl Abort, call: Call<'_>, refusal: u8) -> Result<(), Fail> {
         if refusal == 0 {
             self.takes(rt, call)
         } else {
@@ -204,7 +200,7 @@ impl<'a, B: Bound + PartialEq> Fixture<'a, B> {
         call: Call<'_>,
         refusal: u8,
         not_whole: u8,
-    ) -> Result<(), AllocError> {
+    ) -> Result<(), Fail> {
         for lent in NOT_WHOLE {
             self.refuses(rt, lent, call, not_whole)?;
         }

@@ -3,8 +3,9 @@ use crate::faults::{Fault, RECORDS, faulty, refusal_under};
 use crate::fixture::{Call, Fixture};
 use crate::stages::{STAGES, Stage, line_at, two_carriers};
 use bounds::{Bound, MarkedBound, PlainBound};
-use std::alloc::{AllocError, Global};
+use std::alloc::Global;
 use std::process::Abort;
+use std::test::Fail;
 
 // Places and ages of the initial tokens; the net has two places.
 #[derive(Clone, Copy)]
@@ -98,7 +99,7 @@ fn check_call<B: Bound + PartialEq>(
     initial: Initial,
     faults: [Fault; 2],
     refusal: u8,
-) -> Result<(), AllocError> {
+) -> Result<(), Fail> {
     let target = faulty(line.heap, faults)?;
     let call = Call::Open(places(initial), ages(initial), &target);
     if stage == Stage::Blank {
@@ -112,7 +113,7 @@ fn check_stage<B: Bound + PartialEq>(
     rt: &impl Abort,
     line: &mut Fixture<'_, B>,
     stage: Stage,
-) -> Result<(), AllocError> {
+) -> Result<(), Fail> {
     for row in RECORDS {
         let number = refusal_under::<B>(row);
         check_call(rt, line, stage, Initial::Fine, row.0, number)?;
@@ -123,7 +124,7 @@ fn check_stage<B: Bound + PartialEq>(
     Ok(())
 }
 
-fn check_stages<B: Bound + PartialEq>(rt: &impl Abort, heap: Global) -> Result<(), AllocError> {
+fn check_stages<B: Bound + PartialEq>(rt: &impl Abort, heap: Global) -> Result<(), Fail> {
     let bytes = two_carriers(heap)?;
     for stage in STAGES {
         let mut line: Fixture<'_, B> = line_at(rt, heap, &bytes, stage)?;
@@ -133,11 +134,11 @@ fn check_stages<B: Bound + PartialEq>(rt: &impl Abort, heap: Global) -> Result<(
 }
 
 #[test]
-fn plain_opens_are_refused_by_number(rt: HostRuntime) -> Result<(), AllocError> {
+fn plain_opens_are_refused_by_number(rt: HostRuntime) -> Result<(), Fail> {
     check_stages::<PlainBound>(&rt, rt.alloc())
 }
 
 #[test]
-fn marked_opens_are_refused_by_number(rt: HostRuntime) -> Result<(), AllocError> {
+fn marked_opens_are_refused_by_number(rt: HostRuntime) -> Result<(), Fail> {
     check_stages::<MarkedBound>(&rt, rt.alloc())
 }

@@ -2,8 +2,9 @@
 use crate::fixture::{Call, Fixture};
 use crate::stages::{BOTH_IN_1, ONE_EACH, ONE_IN_1, two_carriers};
 use bounds::{Bound, MarkedBound, PlainBound, bound_of};
-use std::alloc::{AllocError, Global};
+use std::alloc::Global;
 use std::process::Abort;
+use std::test::Fail;
 use test_records::zone_bytes::*;
 
 // A bound by its row and column, with its mark.
@@ -42,7 +43,7 @@ fn check_written<B: Bound + PartialEq>(
     line: &mut Fixture<'_, B>,
     call: Call<'_>,
     written: Written<'_>,
-) -> Result<(), AllocError> {
+) -> Result<(), Fail> {
     let cells = line.cells.as_slice().to_vec(line.heap)?;
     let places = line.places.as_slice().to_vec(line.heap)?;
     line.gives(rt, call, 0)?;
@@ -91,7 +92,7 @@ const EIGHT_FORM: [Entry; 8] = [
 const EIGHT_IN_1: [u8; 7] = [8, 0x04, 0x10, 0x41, 0x04, 0x10, 0x41];
 
 // A target of no tokens on page 0, zones of two, of eight and of one on pages 1 to 3, and the last page.
-fn check_pages<B: Bound + PartialEq>(rt: &impl Abort, heap: Global) -> Result<(), AllocError> {
+fn check_pages<B: Bound + PartialEq>(rt: &impl Abort, heap: Global) -> Result<(), Fail> {
     let bytes = two_carriers(heap)?;
     let mut line: Fixture<'_, B> = Fixture::blank(heap, &bytes)?;
     let none = Written {
@@ -124,12 +125,12 @@ fn check_pages<B: Bound + PartialEq>(rt: &impl Abort, heap: Global) -> Result<()
 }
 
 #[test]
-fn a_page_holds_the_plain_normal_form(rt: HostRuntime) -> Result<(), AllocError> {
+fn a_page_holds_the_plain_normal_form(rt: HostRuntime) -> Result<(), Fail> {
     check_pages::<PlainBound>(&rt, rt.alloc())
 }
 
 #[test]
-fn a_page_holds_the_marked_normal_form(rt: HostRuntime) -> Result<(), AllocError> {
+fn a_page_holds_the_marked_normal_form(rt: HostRuntime) -> Result<(), Fail> {
     check_pages::<MarkedBound>(&rt, rt.alloc())
 }
 
@@ -147,7 +148,7 @@ const STRICT_FORM: [Entry; 6] = [
 
 // A target whose token is above 1, and a zone of two tokens.
 #[test]
-fn a_page_keeps_marks(rt: HostRuntime) -> Result<(), AllocError> {
+fn a_page_keeps_marks(rt: HostRuntime) -> Result<(), Fail> {
     let heap = rt.alloc();
     let bytes = two_carriers(heap)?;
     let mut line: Fixture<'_, MarkedBound> = Fixture::blank(heap, &bytes)?;
@@ -174,7 +175,7 @@ fn check_taken<B: Bound + PartialEq>(
     heap: Global,
     places: &[u8],
     ages: &[u16],
-) -> Result<(), AllocError> {
+) -> Result<(), Fail> {
     let bytes = two_carriers(heap)?;
     let mut line: Fixture<'_, B> = Fixture::blank(heap, &bytes)?;
     let two = Written {
@@ -187,7 +188,7 @@ fn check_taken<B: Bound + PartialEq>(
     check_written(rt, &mut line, open, two)
 }
 
-fn check_edges<B: Bound + PartialEq>(rt: &impl Abort, heap: Global) -> Result<(), AllocError> {
+fn check_edges<B: Bound + PartialEq>(rt: &impl Abort, heap: Global) -> Result<(), Fail> {
     check_taken::<B>(rt, heap, &[], &[])?;
     check_taken::<B>(rt, heap, &[1; 8], &[32767; 8])?;
     // the target is satisfied from the start: only listed zones are asked for that
@@ -195,7 +196,7 @@ fn check_edges<B: Bound + PartialEq>(rt: &impl Abort, heap: Global) -> Result<()
 }
 
 #[test]
-fn initial_markings_at_their_limits(rt: HostRuntime) -> Result<(), AllocError> {
+fn initial_markings_at_their_limits(rt: HostRuntime) -> Result<(), Fail> {
     check_edges::<PlainBound>(&rt, rt.alloc())?;
     check_edges::<MarkedBound>(&rt, rt.alloc())
 }

@@ -3,8 +3,9 @@ use crate::faults::{Fault, RECORDS, Row, faulty, refusal_under};
 use crate::fixture::{Call, Fixture};
 use crate::stages::{STAGES, Stage, line_at, two_carriers};
 use bounds::{Bound, MarkedBound, PlainBound};
-use std::alloc::{AllocError, Global};
+use std::alloc::Global;
 use std::process::Abort;
+use std::test::Fail;
 
 // The initial token stands in place 0 and is 2 old. It satisfies no zone with a token in another place, of more tokens, or without
 // any age, so 26 comes together with 20, 21 and 24 alone.
@@ -33,13 +34,13 @@ fn check_row<B: Bound + PartialEq>(
     line: &mut Fixture<'_, B>,
     stage: Stage,
     row: Row,
-) -> Result<(), AllocError> {
+) -> Result<(), Fail> {
     let zone = faulty(line.heap, row.0)?;
     let (refusal, not_whole) = at_stage(stage, refusal_under::<B>(row));
     line.refuses_each(rt, Call::Post(&zone), refusal, not_whole)
 }
 
-fn check_stages<B: Bound + PartialEq>(rt: &impl Abort, heap: Global) -> Result<(), AllocError> {
+fn check_stages<B: Bound + PartialEq>(rt: &impl Abort, heap: Global) -> Result<(), Fail> {
     let bytes = two_carriers(heap)?;
     for stage in STAGES {
         let mut line: Fixture<'_, B> = line_at(rt, heap, &bytes, stage)?;
@@ -51,11 +52,11 @@ fn check_stages<B: Bound + PartialEq>(rt: &impl Abort, heap: Global) -> Result<(
 }
 
 #[test]
-fn plain_posts_are_refused_by_number(rt: HostRuntime) -> Result<(), AllocError> {
+fn plain_posts_are_refused_by_number(rt: HostRuntime) -> Result<(), Fail> {
     check_stages::<PlainBound>(&rt, rt.alloc())
 }
 
 #[test]
-fn marked_posts_are_refused_by_number(rt: HostRuntime) -> Result<(), AllocError> {
+fn marked_posts_are_refused_by_number(rt: HostRuntime) -> Result<(), Fail> {
     check_stages::<MarkedBound>(&rt, rt.alloc())
 }

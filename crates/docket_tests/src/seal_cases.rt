@@ -3,8 +3,9 @@ use crate::due_cases::{ITEMS, item};
 use crate::fixture::{Call, Fixture};
 use crate::stages::*;
 use bounds::{Bound, MarkedBound, PlainBound};
-use std::alloc::{AllocError, Global};
+use std::alloc::Global;
 use std::process::Abort;
+use std::test::Fail;
 use test_records::zone_bytes::record;
 
 // Whether it is proving, whether it is sealed, and its listed zones and vouchers.
@@ -17,7 +18,7 @@ const ANSWERS: [(Stage, bool, bool, u8, u64); 5] = [
 ];
 
 // In proving the target is due; close is refused with 40 but while listing.
-fn check_answers<B: Bound + PartialEq>(rt: &impl Abort, heap: Global) -> Result<(), AllocError> {
+fn check_answers<B: Bound + PartialEq>(rt: &impl Abort, heap: Global) -> Result<(), Fail> {
     let bytes = two_carriers(heap)?;
     for (stage, is_proving, is_sealed, listed, taken) in ANSWERS {
         let mut line: Fixture<'_, B> = line_at(rt, heap, &bytes, stage)?;
@@ -34,12 +35,12 @@ fn check_answers<B: Bound + PartialEq>(rt: &impl Abort, heap: Global) -> Result<
 }
 
 #[test]
-fn each_stage_answers_for_itself(rt: HostRuntime) -> Result<(), AllocError> {
+fn each_stage_answers_for_itself(rt: HostRuntime) -> Result<(), Fail> {
     check_answers::<PlainBound>(&rt, rt.alloc())?;
     check_answers::<MarkedBound>(&rt, rt.alloc())
 }
 
-fn check_seal<B: Bound + PartialEq>(rt: &impl Abort, heap: Global) -> Result<(), AllocError> {
+fn check_seal<B: Bound + PartialEq>(rt: &impl Abort, heap: Global) -> Result<(), Fail> {
     let bytes = two_carriers(heap)?;
     let mut line: Fixture<'_, B> = line_at(rt, heap, &bytes, Stage::Proving)?;
     for (due, voucher) in ITEMS.iter().zip(VOUCHERS.iter()) {
@@ -54,13 +55,13 @@ fn check_seal<B: Bound + PartialEq>(rt: &impl Abort, heap: Global) -> Result<(),
 }
 
 #[test]
-fn ten_vouchers_seal(rt: HostRuntime) -> Result<(), AllocError> {
+fn ten_vouchers_seal(rt: HostRuntime) -> Result<(), Fail> {
     check_seal::<PlainBound>(&rt, rt.alloc())?;
     check_seal::<MarkedBound>(&rt, rt.alloc())
 }
 
 #[test]
-fn a_list_without_zones_is_never_sealed(rt: HostRuntime) -> Result<(), AllocError> {
+fn a_list_without_zones_is_never_sealed(rt: HostRuntime) -> Result<(), Fail> {
     let heap = rt.alloc();
     let bytes = two_carriers(heap)?;
     let mut line: Fixture<'_, PlainBound> = Fixture::blank(heap, &bytes)?;

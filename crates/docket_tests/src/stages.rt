@@ -1,8 +1,9 @@
 // Dockets of the line of two carriers at each of their stages, and what is asked of each stage.
 use crate::fixture::{Call, Fixture};
 use bounds::Bound;
-use std::alloc::{AllocError, Global};
+use std::alloc::Global;
 use std::process::Abort;
+use std::test::Fail;
 use test_records::net_bytes::one_transition;
 use test_records::zone_bytes::record;
 
@@ -45,7 +46,7 @@ pub const STAGES: [Stage; 5] = [
 ];
 
 // A net of two places: from place 0, age 1 to 2, into place 1 at age 0.
-pub fn two_carriers(heap: Global) -> Result<Vec<u8>, AllocError> {
+pub fn two_carriers(heap: Global) -> Result<Vec<u8>, Fail> {
     one_transition(
         heap,
         &[0x41, 0x02, 0x00, 0x00],
@@ -59,7 +60,7 @@ pub fn listing<'a, B: Bound + PartialEq>(
     rt: &impl Abort,
     heap: Global,
     bytes: &'a [u8],
-) -> Result<Fixture<'a, B>, AllocError> {
+) -> Result<Fixture<'a, B>, Fail> {
     let mut line = Fixture::blank(heap, bytes)?;
     let target = record(heap, &BOTH_IN_1, &[])?;
     line.gives(rt, Call::Open(&[0], &[2], &target), 0)?;
@@ -74,7 +75,7 @@ fn lead_on<B: Bound + PartialEq>(
     rt: &impl Abort,
     line: &mut Fixture<'_, B>,
     stage: Stage,
-) -> Result<(), AllocError> {
+) -> Result<(), Fail> {
     if stage == Stage::Full {
         let zone = record(line.heap, &BOTH_IN_1, &[])?;
         for _ in 3..63 {
@@ -97,7 +98,7 @@ pub fn line_at<'a, B: Bound + PartialEq>(
     heap: Global,
     bytes: &'a [u8],
     stage: Stage,
-) -> Result<Fixture<'a, B>, AllocError> {
+) -> Result<Fixture<'a, B>, Fail> {
     if stage == Stage::Blank {
         return Fixture::blank(heap, bytes);
     }

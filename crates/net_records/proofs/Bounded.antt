@@ -1,21 +1,23 @@
--- The net that sound bytes say keeps the limits of every net. Assumes nothing.
-use Rattle.std.proofs.Common.{◌≡◌, ℕ, zero, suc, ◌+◌, ◌<◌, ◌≤◌, Bool, true, false, cond, not, ◌&&◌, ◌||◌, ltb, leb, List, [], ◌∷◌, map, length, take, drop, pos, neg_ℤ, nat_abs, Some, None, Option, sym, refl, ap, ◌∙◌, arith, length-take}
+-- The net that sound bytes say keeps the limits of every net.
+use Rattle.std.proofs.Common.{◌≡◌, ℕ, zero, suc, ◌+◌, ◌<◌, ◌≤◌, Bool, true, false, cond, ltb, leb, List, [], ◌∷◌, map, length, take, drop, Some, None, Option, sym, refl, ap, ◌∙◌, arith, length-take}
+use Rattle.std.specs.Bool.{then_some}
 use Rattle.std.proofs.lemmas.List.{length-map}
-use Rattle.std.proofs.lemmas.Bool.{not-false, leb-false, le-leb, le-ltb, lt-ltb, or_parts, cond-true, cond-false}
-use Rattle.bounds.specs.Kinds.{Kind, largest_size}
-use Rattle.bounds.specs.Limits.{limit_at_most, limit_sum}
-use Rattle.bounds.specs.Limits.Limit.{number, unlimited}
+use Rattle.std.proofs.lemmas.Bool.{leb-false, le-ltb, lt-ltb, or_parts, cond-true, cond-false}
+use Rattle.bounds.specs.Kinds.{Kind}
+use Rattle.bounds.specs.MarkedKind.{marked_kind}
+use Rattle.bounds.specs.Ranges.{below_zero}
 use Rattle.nets.specs.Nets.{largest_end, RangeLimits, Every, ArcLimits, TransitionLimits, Limits}
-use Rattle.std.specs.List.{find}
-use Rattle.nets.proofs.Ranges.{difference, small_difference, open_range, closed_range}
+use Rattle.nets.specs.declared.side.Side.{Side}
+use Rattle.nets.specs.declared.side.Side.TheVariants.{Input, Output}
+use Rattle.nets.proofs.Ranges.{open_range, closed_range}
 use Rattle.net_records.specs.Bits.{field, flag}
-use Rattle.net_records.specs.NetBytes.{upper_bound, slot_arc, record_transition, transitions_of, net_of}
-use Rattle.net_records.specs.NetRecords.{in_order, net_header_of, transition_record, is_used, slot_has, some_slot_has, record_has, transition_refusal, transition_fault, transitions_fault, sound}
-use Rattle.net_records.specs.Slots.{end_at, slot_of, slots_of, end_limit, used_has, unused_has}
+use Rattle.net_records.specs.NetBytes.{slot_arc, record_transition, transitions_of, net_of}
+use Rattle.net_records.specs.NetRecords.{net_header_of, transition_record, slot_side, some_slot_from, place_missing, empty_range, record_rows, transition_refusal, transition_fault, transitions_fault, sound}
+use Rattle.net_records.specs.Slots.{end_at, slot_of, slots_of, upper_bound, lower_bound, is_empty}
 use Rattle.net_records.proofs.Fields.{field_below}
 use Rattle.net_records.proofs.Stores.{length_transitions}
-use Rattle.net_records.proofs.Clean.{or_none, refusal_none, at_none, all_clear, parts, few_transitions, refusal_counts}
-use Rattle.net_records.specs.declared.fault.NetRefusal.TheVariants.{NoSuchPlace, EmptyRange}
+use Rattle.net_records.proofs.Tables.{NoneHolds}
+use Rattle.net_records.proofs.Clean.{or_none, refusal_none, at_none, parts, few_transitions, refusal_counts}
 use Rattle.net_records.specs.declared.header.NetHeader.{NetHeader}
 use Rattle.net_records.specs.declared.slot.End.{End}
 use Rattle.net_records.specs.declared.slot.Slot.{Slot}
@@ -50,17 +52,14 @@ below i m k e = omega arith
 module _ {B : Type 0} (kind : Kind B) where
   -- by whether the range has an upper limit
   range_limits : (lower : End) (upper : Option End) → lower.number ≤ largest_end → SmallEnd upper
-      → not (limit_at_most (number (pos 0) false) (limit_sum (end_limit upper) (number (neg_ℤ (pos lower.number)) lower.strict))) ≡ false
-      → RangeLimits kind (record { upper = upper_bound kind upper; lower = kind.number (neg_ℤ (pos lower.number)) (lower.strict && kind.marks) })
+      → below_zero marked_kind (record { upper = upper_bound marked_kind upper; lower = lower_bound marked_kind lower }) ≡ false
+      → RangeLimits kind (record { upper = upper_bound kind upper; lower = lower_bound kind lower })
   range_limits lower None low_small high_small e = open_range kind lower.number lower.strict low_small
   range_limits lower (Some upper) low_small high_small e =
-      let d = difference lower.number upper.number in
-      let within = small_difference lower.number upper.number low_small high_small in
-      let kept = cond-true (leb (nat_abs d) largest_size) (number d (upper.strict || lower.strict)) unlimited (le-leb (nat_abs d) largest_size within) in
-      closed_range kind lower.number lower.strict low_small upper.number upper.strict high_small (ap (limit_at_most (number (pos 0) false)) (sym kept) ∙ not-false _ e)
+      closed_range kind lower.number lower.strict low_small upper.number upper.strict high_small e
 
   -- ---- slots
-  slot_limits : (h : NetHeader) (s : Slot) → Small s → used_has NoSuchPlace h s ≡ false → used_has EmptyRange h s ≡ false → ArcLimits kind h.places (slot_arc kind s)
+  slot_limits : (h : NetHeader) (s : Slot) → Small s → leb h.places s.place ≡ false → is_empty s ≡ false → ArcLimits kind h.places (slot_arc kind s)
   slot_limits h s small there some =
       record {
         place = leb-false h.places s.place there;
@@ -68,41 +67,44 @@ module _ {B : Type 0} (kind : Kind B) where
       }
 
   module _ (h : NetHeader) (r : TransitionRecord) where
-    used_input : (i m n : ℕ) → i + suc m ≡ r.inputs → i + suc n ≡ 4 → is_used r i ≡ true
-    used_input i m n e f = cond-true (ltb i 4) _ _ (lt-ltb i 4 (omega arith)) ∙ lt-ltb i r.inputs (below i m r.inputs e)
+    used_input : (i m n : ℕ) → i + suc m ≡ r.inputs → i + suc n ≡ 4 → slot_side r i ≡ Some Input
+    used_input i m n e f =
+        cond-true (ltb i 4) _ _ (lt-ltb i 4 (omega arith)) ∙ ap (λ t. then_some t Input) (lt-ltb i r.inputs (below i m r.inputs e))
 
-    used_output : (i m : ℕ) → i + suc m ≡ 4 + r.outputs → 4 ≤ i → is_used r i ≡ true
-    used_output i m e f = cond-false (ltb i 4) _ _ (le-ltb i 4 f) ∙ lt-ltb i (4 + r.outputs) (below i m (4 + r.outputs) e)
+    used_output : (i m : ℕ) → i + suc m ≡ 4 + r.outputs → 4 ≤ i → slot_side r i ≡ Some Output
+    used_output i m e f =
+        cond-false (ltb i 4) _ _ (le-ltb i 4 f) ∙ ap (λ t. then_some t Output) (lt-ltb i (4 + r.outputs) (below i m (4 + r.outputs) e))
 
-    -- the slots from i on have neither refusal
+    -- the slots from i on have their places, and ranges that are not empty
     abbrev Rest : ℕ → List Slot → Type 0
-    Rest i ss = (some_slot_has NoSuchPlace h r i ss ≡ false) × (some_slot_has EmptyRange h r i ss ≡ false)
+    Rest i ss =
+        (some_slot_from (place_missing h) r i ss ≡ false) × (some_slot_from empty_range r i ss ≡ false)
 
     rest_of : (i : ℕ) (s : Slot) (ss : List Slot) → Rest i (s ∷ ss) → Rest (i + 1) ss
     rest_of i s ss e =
-        ((or_parts (slot_has NoSuchPlace h r i s) (some_slot_has NoSuchPlace h r (i + 1) ss) e.0).1, (or_parts (slot_has EmptyRange h r i s) (some_slot_has EmptyRange h r (i + 1) ss) e.1).1)
+        ((or_parts (place_missing h (slot_side r i) s) _ e.0).1, (or_parts (empty_range (slot_side r i) s) _ e.1).1)
 
-    first_limits : (i : ℕ) (s : Slot) (ss : List Slot) → is_used r i ≡ true → Small s → Rest i (s ∷ ss) → ArcLimits kind h.places (slot_arc kind s)
-    first_limits i s ss used small e =
+    first_limits : (i : ℕ) (s : Slot) (ss : List Slot) (side : Side) → slot_side r i ≡ Some side → Small s → Rest i (s ∷ ss) → ArcLimits kind h.places (slot_arc kind s)
+    first_limits i s ss side used small e =
         slot_limits
         h
         s
         small
-        (sym (cond-true (is_used r i) (used_has NoSuchPlace h s) (unused_has NoSuchPlace s) used) ∙ (or_parts (slot_has NoSuchPlace h r i s) (some_slot_has NoSuchPlace h r (i + 1) ss) e.0).0)
-        (sym (cond-true (is_used r i) (used_has EmptyRange h s) (unused_has EmptyRange s) used) ∙ (or_parts (slot_has EmptyRange h r i s) (some_slot_has EmptyRange h r (i + 1) ss) e.1).0)
+        (sym (ap (λ o. place_missing h o s) used) ∙ (or_parts (place_missing h (slot_side r i) s) _ e.0).0)
+        (sym (ap (λ o. empty_range o s) used) ∙ (or_parts (empty_range (slot_side r i) s) _ e.1).0)
 
     input_limits : (i m n : ℕ) (ss : List Slot) → i + m ≡ r.inputs → i + n ≡ 4 → Every Small ss → Rest i ss → Every (ArcLimits kind h.places) (map (slot_arc kind) (take m (take n ss)))
     input_limits i zero n ss e f small rest = tt
     input_limits i (suc m) zero ss e f small rest = tt
     input_limits i (suc m) (suc n) [] e f small rest = tt
     input_limits i (suc m) (suc n) (s ∷ ss) e f small rest =
-        (first_limits i s ss (used_input i m n e f) small.0 rest, input_limits (i + 1) m n ss (omega arith) (omega arith) small.1 (rest_of i s ss rest))
+        (first_limits i s ss Input (used_input i m n e f) small.0 rest, input_limits (i + 1) m n ss (omega arith) (omega arith) small.1 (rest_of i s ss rest))
 
     output_limits : (i m : ℕ) (ss : List Slot) → i + m ≡ 4 + r.outputs → 4 ≤ i → Every Small ss → Rest i ss → Every (ArcLimits kind h.places) (map (slot_arc kind) (take m ss))
     output_limits i zero ss e f small rest = tt
     output_limits i (suc m) [] e f small rest = tt
     output_limits i (suc m) (s ∷ ss) e f small rest =
-        (first_limits i s ss (used_output i m e f) small.0 rest, output_limits (i + 1) m ss (omega arith) (omega arith) small.1 (rest_of i s ss rest))
+        (first_limits i s ss Output (used_output i m e f) small.0 rest, output_limits (i + 1) m ss (omega arith) (omega arith) small.1 (rest_of i s ss rest))
 
     later_limits : (i n : ℕ) (ss : List Slot) → i + n ≡ 4 → Every Small ss → Rest i ss → Every (ArcLimits kind h.places) (map (slot_arc kind) (take r.outputs (drop n ss)))
     later_limits i zero ss f small rest = output_limits i r.outputs ss (omega arith) (omega arith) small rest
@@ -113,10 +115,9 @@ module _ {B : Type 0} (kind : Kind B) where
     few : (m : ℕ) (ss : List Slot) → m ≤ 4 → length (map (slot_arc kind) (take m ss)) ≤ 4
     few m ss le = omega (arith, length-map (take m ss) (slot_arc kind), length-take m ss)
 
-    record_limits : find (record_has h r) in_order ≡ None → Every Small r.slots → r.inputs ≤ 4 → r.outputs ≤ 4 → TransitionLimits kind h.places (record_transition kind r)
-    record_limits e small inputs outputs =
-        let clear = all_clear (record_has h r) e in
-        let rest : Rest 0 r.slots = ((or_parts false _ clear.places).1, (or_parts false _ clear.ranges).1) in
+    record_limits : NoneHolds (record_rows h r) → Every Small r.slots → r.inputs ≤ 4 → r.outputs ≤ 4 → TransitionLimits kind h.places (record_transition kind r)
+    record_limits clear small inputs outputs =
+        let rest : Rest 0 r.slots = (clear.1.1.0, clear.1.1.1.1.0) in
         record {
           few_inputs = few r.inputs (take 4 r.slots) inputs;
           few_outputs = few r.outputs (drop 4 r.slots) outputs;

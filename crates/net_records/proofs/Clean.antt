@@ -1,21 +1,18 @@
--- What holds of bytes without a fault. Assumes nothing.
-use Rattle.std.proofs.Common.{◌≡◌, ℕ, zero, suc, ◌+◌, ◌-◌, ◌*◌, ◌<◌, ◌≤◌, min, Bool, true, false, cond, not, ◌&&◌, eqb, ltb, leb, List, [], ◌∷◌, length, take, drop, is_some, Some, None, Ok, Err, Option, Result, MatchOption, MatchResult, Bor, sym, refl, ap, ◌∙◌, arith, length-drop, length-take}
+-- What holds of bytes without a fault.
+use Rattle.std.proofs.Common.{◌≡◌, ℕ, zero, suc, ◌+◌, ◌-◌, ◌*◌, ◌<◌, ◌≤◌, min, true, false, cond, not, ◌&&◌, eqb, ltb, leb, List, length, take, drop, is_some, Some, None, Option, MatchOption, Bor, sym, refl, ap, ◌∙◌, arith, length-drop, length-take}
 use Rattle.std.proofs.lemmas.List.{drop-drop}
 use Rattle.std.proofs.lemmas.Bool.{false≢true, ltb-false, or_parts, and_parts, and_right, leb-true, lt-leb, cond-true, cond-false}
-use Rattle.std.specs.List.{find}
-use Rattle.std.specs.Result.{result_unwrap_or}
 use Rattle.net_records.specs.Bits.{field}
 use Rattle.net_records.specs.NetBytes.{transition_bytes, has_transition, side_count, side_start, arcs_at, slot_at, net_size}
-use Rattle.net_records.specs.NetRecords.{in_order, net_header_of, header_has, at_record, or_else, sized, header_fault, transition_refusal, transition_fault, transitions_fault, net_fault, sound, no_net, transition_record, record_has, counts_have, some_slot_has}
+use Rattle.net_records.specs.NetRecords.{net_header_of, header_rows, at_record, or_else, header_fault, transition_rows, transition_refusal, transition_fault, transitions_fault, net_fault, sound, transition_record, record_rows}
 use Rattle.net_records.specs.Slots.{slot_of}
 use Rattle.nets.specs.declared.side.Side.{Side}
 use Rattle.nets.specs.declared.side.Side.TheVariants.{Input, Output}
 use Rattle.net_records.specs.Refusals.{NetFault}
+use Rattle.net_records.proofs.Tables.{NoneHolds, none_holds}
 use Rattle.net_records.specs.declared.fault.NetRefusal.{NetRefusal}
-use Rattle.net_records.specs.declared.fault.NetRefusal.TheVariants.{BytesMissing, NotZero, OutsideLimits, NoSuchPlace, MarkUnderPlain, EmptyRange}
 use Rattle.net_records.specs.declared.header.NetHeader.{NetHeader}
 use Rattle.net_records.specs.declared.slot.Slot.{Slot}
-use Rattle.net_records.specs.declared.transition.TransitionRecord.{TransitionRecord}
 
 clean_of : (o : Option NetFault) → not (is_some o) ≡ true → o ≡ None
 clean_of None e = refl
@@ -37,44 +34,16 @@ pub or_none : (a b : Option NetFault) → or_else a b ≡ None → (a ≡ None) 
 or_none None b e = (refl, e)
 or_none (Some f) b e = let z : ◌≡◌ {A = ℕ} 0 1 = cc in absurd (omega arith)
 
-pub sized_none : (n : ℕ) (bytes : List ℕ) (has : NetRefusal → Bool) → sized n bytes has ≡ None → (n ≤ length bytes) × (find has in_order ≡ None)
-sized_none n bytes has e = by_test (ltb (length bytes) n) refl e
-  where
-    by_test : (t : Bool) → ltb (length bytes) n ≡ t → cond t (Some BytesMissing) (find has in_order) ≡ None → (n ≤ length bytes) × (find has in_order ≡ None)
-    by_test true h e = let z : ◌≡◌ {A = ℕ} 0 1 = cc in absurd (omega arith)
-    by_test false h e = (ltb-false (length bytes) n h, e)
-
 pub at_none : (at : ℕ) (o : Option NetRefusal) → at_record at o ≡ None → o ≡ None
 at_none at None e = refl
 at_none at (Some r) e = let z : ◌≡◌ {A = ℕ} 0 1 = cc in absurd (omega arith)
 
-pub first_none : (has : NetRefusal → Bool) (r : NetRefusal) (rs : List NetRefusal) → find has (r ∷ rs) ≡ None → (has r ≡ false) × (find has rs ≡ None)
-first_none has r rs e = by_test (has r) refl e
-  where
-    by_test : (t : Bool) → has r ≡ t → cond t (Some r) (find has rs) ≡ None → (has r ≡ false) × (find has rs ≡ None)
-    by_test true h e = let z : ◌≡◌ {A = ℕ} 0 1 = cc in absurd (omega arith)
-    by_test false h e = (h, e)
-
--- none of the five holds
-pub record Clear (has : NetRefusal → Bool) : Type 0 where
-  pub zero_fields : has NotZero ≡ false
-  pub in_limits : has OutsideLimits ≡ false
-  pub places : has NoSuchPlace ≡ false
-  pub marks : has MarkUnderPlain ≡ false
-  pub ranges : has EmptyRange ≡ false
-
-pub all_clear : (has : NetRefusal → Bool) → find has in_order ≡ None → Clear has
-all_clear has e =
-    let a = first_none has NotZero (OutsideLimits ∷ (NoSuchPlace ∷ (MarkUnderPlain ∷ (EmptyRange ∷ [])))) e in
-    let b = first_none has OutsideLimits (NoSuchPlace ∷ (MarkUnderPlain ∷ (EmptyRange ∷ []))) a.1 in
-    let c = first_none has NoSuchPlace (MarkUnderPlain ∷ (EmptyRange ∷ [])) b.1 in
-    let d = first_none has MarkUnderPlain (EmptyRange ∷ []) c.1 in
-    record { zero_fields = a.0; in_limits = b.0; places = c.0; marks = d.0; ranges = (first_none has EmptyRange [] d.1).0 }
-
 -- ---- each transition is whole and has no refusal
-pub refusal_none : (h : NetHeader) (bytes : List ℕ) → transition_refusal h bytes ≡ None → (41 ≤ length bytes) × (find (record_has h (transition_record bytes)) in_order ≡ None)
+pub refusal_none : (h : NetHeader) (bytes : List ℕ) → transition_refusal h bytes ≡ None → (41 ≤ length bytes) × NoneHolds (record_rows h (transition_record bytes))
 unfolding transition_refusal
-refusal_none h bytes e = sized_none 41 bytes (record_has h (transition_record bytes)) e
+refusal_none h bytes e =
+    let clear = none_holds (transition_rows h bytes) e in
+    (ltb-false (length bytes) 41 clear.0, clear.1)
 
 pub transitions_clean : (h : NetHeader) (n at : ℕ) (bytes : List ℕ) → transitions_fault h n at bytes ≡ None → (i : ℕ) → i < n → (41 * i + 41 ≤ length bytes) × (transition_refusal h (take 41 (drop (41 * i) bytes)) ≡ None)
 transitions_clean h zero at bytes e i lt = absurd (omega arith)
@@ -91,17 +60,16 @@ module _ (bytes : List ℕ) (clean : sound bytes ≡ true) where
   pub parts : (header_fault bytes ≡ None) × (transitions_fault (net_header_of (take 4 bytes)) (net_header_of (take 4 bytes)).transitions 1 (drop 4 bytes) ≡ None)
   parts = or_none (header_fault bytes) _ (sound_clean bytes clean)
 
-  header_none : (4 ≤ length (take 4 bytes)) × (find (header_has (take 4 bytes)) in_order ≡ None)
-  header_none = sized_none 4 (take 4 bytes) (header_has (take 4 bytes)) (at_none 0 _ parts.0)
+  header_none : NoneHolds (header_rows (take 4 bytes))
+  header_none = none_holds (header_rows (take 4 bytes)) (at_none 0 _ parts.0)
 
   pub header_whole : 4 ≤ length bytes
-  header_whole = omega (arith, header_none.0, length-take 4 bytes)
+  header_whole = omega (arith, ltb-false (length (take 4 bytes)) 4 header_none.0, length-take 4 bytes)
 
   pub few_transitions : (net_header_of (take 4 bytes)).transitions ≤ 64
   few_transitions =
-      let outside = (all_clear (header_has (take 4 bytes)) header_none.1).in_limits in
       let b = field (take 4 bytes) 8 7 in
-      ltb-false 64 b (or_parts (eqb (field (take 4 bytes) 0 2) 3) (ltb 64 b) outside).1
+      ltb-false 64 b (or_parts (eqb (field (take 4 bytes) 0 2) 3) (ltb 64 b) header_none.1.1.0).1
 
   module _ (t : ℕ) (there : has_transition bytes t ≡ true) where
     within : (1 ≤ t) × (t ≤ (net_header_of (take 4 bytes)).transitions)
@@ -152,25 +120,12 @@ module _ (bytes : List ℕ) (clean : sound bytes ≡ true) where
       by_count (suc n) e =
           last n (length bytes) (length (drop 4 bytes)) (transitions_clean (net_header_of (take 4 bytes)) (net_header_of (take 4 bytes)).transitions 1 (drop 4 bytes) parts.1 n (omega (arith, e))).0 (length-drop 4 bytes) header_whole
 
-pub no_net_sound : sound no_net ≡ true
-unfolding sound
-no_net_sound = refl
-
--- the net that was read, or else the one of no_net
-pub read_or_none : {P : Type 0} (of : P → List ℕ) (bytes : List ℕ) (t : Result P NetFault) (d r : P) → MatchResult t (λ net. (of net ≡ bytes) × (sound bytes ≡ true)) (λ f. net_fault bytes ≡ Some f) → of d ≡ no_net → r ≡ result_unwrap_or t d → of r ≡ cond (sound bytes) bytes no_net
-read_or_none of bytes (Ok net) d r m none is = ap of is ∙ m.0 ∙ sym (cond-true (sound bytes) bytes no_net m.1)
-read_or_none of bytes (Err f) d r m none is = ap of is ∙ none ∙ sym (cond-false (sound bytes) bytes no_net (faulty_unsound bytes f m))
-
 -- ---- slots of a transition
--- the counts of a transition without a fault
-record_counts : (h : NetHeader) (r : TransitionRecord) → find (record_has h r) in_order ≡ None → (r.inputs ≤ 4) × (r.outputs ≤ 4)
-record_counts h r e =
-    let counts = (or_parts (counts_have OutsideLimits r) (some_slot_has OutsideLimits h r 0 r.slots) (all_clear (record_has h r) e).in_limits).0 in
-    let both = or_parts (ltb 4 r.inputs) (ltb 4 r.outputs) counts in
-    (ltb-false 4 r.inputs both.0, ltb-false 4 r.outputs both.1)
-
 pub refusal_counts : (h : NetHeader) (bytes : List ℕ) → transition_refusal h bytes ≡ None → ((transition_record bytes).inputs ≤ 4) × ((transition_record bytes).outputs ≤ 4)
-refusal_counts h bytes e = record_counts h (transition_record bytes) (refusal_none h bytes e).1
+refusal_counts h bytes e =
+    let r = transition_record bytes in
+    let both = or_parts (ltb 4 r.inputs) (ltb 4 r.outputs) (refusal_none h bytes e).1.1.0 in
+    (ltb-false 4 r.inputs both.0, ltb-false 4 r.outputs both.1)
 
 pub few_arcs : (side : Side) (h : NetHeader) (bytes : List ℕ) → transition_refusal h bytes ≡ None → side_count side (transition_record bytes) ≤ 4
 few_arcs Input h bytes e = (refusal_counts h bytes e).0

@@ -1,30 +1,19 @@
--- Steps of the loops over the slots of a record. Assumes nothing.
-use Rattle.std.proofs.Common.{◌≡◌, ℕ, zero, suc, ◌+◌, ◌*◌, ◌<◌, Bool, true, false, cond, ◌||◌, List, [], ◌∷◌, ◌++◌, length, take, drop, set, sym, refl, ap, ◌∙◌, arith}
+-- Steps of the loops over the slots of a record.
+use Rattle.std.proofs.Common.{◌≡◌, ℕ, zero, suc, ◌+◌, ◌*◌, ◌<◌, Bool, ◌||◌, Option, List, [], ◌∷◌, ◌++◌, length, take, drop, set, sym, refl, ap, ◌∙◌, arith}
 use Rattle.std.proofs.lemmas.List.{drop-drop, take_more_set}
 use Rattle.std.specs.List.{list_any, zip, range_with_len}
-use Rattle.net_records.specs.NetRecords.{is_used, slot_has, some_slot_has}
+use Rattle.nets.specs.declared.side.Side.{Side}
+use Rattle.net_records.specs.NetRecords.{slot_side, some_slot_from}
 use Rattle.net_records.specs.Slots.{slot_of, slots_of}
-use Rattle.net_records.specs.declared.fault.NetRefusal.{NetRefusal}
-use Rattle.net_records.specs.declared.fault.NetRefusal.TheVariants.{OutsideLimits}
-use Rattle.net_records.specs.declared.header.NetHeader.{NetHeader}
 use Rattle.net_records.specs.declared.slot.Slot.{Slot}
 use Rattle.net_records.specs.declared.transition.TransitionRecord.{TransitionRecord}
 
--- ---- looking for a slot that has a refusal
-pub some_slot_zipped : (refusal : NetRefusal) (h : NetHeader) (r : TransitionRecord) (i n : ℕ) (ss : List Slot) → length ss ≡ n → list_any (λ p. slot_has refusal h r p.0 p.1) (zip (range_with_len i n) ss) ≡ some_slot_has refusal h r i ss
-some_slot_zipped refusal h r i zero [] e = refl
-some_slot_zipped refusal h r i (suc n) [] e = absurd (omega arith)
-some_slot_zipped refusal h r i zero (s ∷ ss) e = absurd (omega arith)
-some_slot_zipped refusal h r i (suc n) (s ∷ ss) e = ap (λ t. slot_has refusal h r i s || t) (some_slot_zipped refusal h r (i + 1) n ss (omega arith))
-
-neither : (used : Bool) → cond used false false ≡ false
-neither true = refl
-neither false = refl
-
--- a slot has no count
-pub no_slot_outside : (h : NetHeader) (r : TransitionRecord) (i : ℕ) (ss : List Slot) → some_slot_has OutsideLimits h r i ss ≡ false
-no_slot_outside h r i [] = refl
-no_slot_outside h r i (s ∷ ss) = ap (λ t. t || some_slot_has OutsideLimits h r (i + 1) ss) (neither (is_used r i)) ∙ no_slot_outside h r (i + 1) ss
+-- ---- looking for a slot
+pub some_slot_zipped : (p : Option Side → Slot → Bool) (r : TransitionRecord) (i n : ℕ) (ss : List Slot) → length ss ≡ n → list_any (λ q. p (slot_side r q.0) q.1) (zip (range_with_len i n) ss) ≡ some_slot_from p r i ss
+some_slot_zipped p r i zero [] e = refl
+some_slot_zipped p r i (suc n) [] e = absurd (omega arith)
+some_slot_zipped p r i zero (s ∷ ss) e = absurd (omega arith)
+some_slot_zipped p r i (suc n) (s ∷ ss) e = ap (λ t. p (slot_side r i) s || t) (some_slot_zipped p r (i + 1) n ss (omega arith))
 
 -- ---- reading slots one after the other
 pub slots_more : (n : ℕ) (bytes : List ℕ) → slots_of (n + 1) bytes ≡ slots_of n bytes ++ (slot_of (take 5 (drop (5 * n) bytes)) ∷ [])

@@ -1,5 +1,5 @@
--- An answer by the first row of a table that holds has that row's number.
-use Rattle.std.proofs.Common.{◌≡◌, ℕ, Bool, true, false, cond, List, [], ◌∷◌, Some, None, Err, Option, Result, sym, refl, ap, subst}
+-- An answer by the first row of a table that holds has that row's number; and where no row holds.
+use Rattle.std.proofs.Common.{◌≡◌, ℕ, Bool, true, false, cond, List, [], ◌∷◌, Some, None, Err, Option, Result, sym, refl, ap, subst, arith}
 use Rattle.net_records.specs.NetRecords.{tested}
 use Rattle.net_records.specs.Rows.{Row, AnswersNumber, RowsNumbered, answer_of, first_number, first_refusal}
 
@@ -36,3 +36,21 @@ module _ {R : Type 0} (number : R → ℕ) where
   table_number x [] numbered = refl
   table_number x (r ∷ rows) numbered =
       one_answer r.holds r.number r.refusal (first_number rows) (answer_of x rows) numbered.0 (table_number x rows numbered.1)
+
+-- ---- no row holds
+abbrev pub NoneHolds : {R : Type 0} → List (Row R) → Type 0
+NoneHolds [] = Unit {0}
+NoneHolds (r ∷ rows) = (r.holds ≡ false) × NoneHolds rows
+
+no_some : {X : Type 0} (x : X) → Some x ≡ None → ⊥
+no_some x e = let z : ◌≡◌ {A = ℕ} 0 1 = cc in absurd (omega arith)
+
+row_none : {R : Type 0} (t : Bool) (r : R) (later : Option R) → cond t (Some r) later ≡ None → (t ≡ false) × (later ≡ None)
+row_none true r later e = absurd (no_some r e)
+row_none false r later e = (refl, e)
+
+pub none_holds : {R : Type 0} (rows : List (Row R)) → first_refusal rows ≡ None → NoneHolds rows
+none_holds [] e = tt
+none_holds (r ∷ rows) e =
+    let both = row_none r.holds r.refusal (first_refusal rows) e in
+    (both.0, none_holds rows both.1)

@@ -1,9 +1,9 @@
--- Steps of the walk through the transitions of a net. Assumes nothing.
+-- Steps of the walk through the transitions of a net.
 use Rattle.std.proofs.Common.{◌≡◌, ℕ, suc, ◌+◌, ◌-◌, ◌<◌, ◌≤◌, Bool, true, false, cond, ltb, List, length, take, drop, Some, None, Ok, Err, Option, Result, MatchResult, IsErrAnd, sym, refl, ap, ◌∙◌, arith, length-take}
 use Rattle.std.proofs.lemmas.Bool.{lt-ltb, cond-true}
 use Rattle.std.proofs.lemmas.Result.{err_from_is_err_and}
-use Rattle.std.specs.List.{find}
-use Rattle.net_records.specs.NetRecords.{in_order, at_record, transition_record, record_has, transition_refusal, or_else, net_header_of, header_fault, transition_fault, transitions_fault, net_fault, tested}
+use Rattle.net_records.specs.Rows.{first_refusal}
+use Rattle.net_records.specs.NetRecords.{at_record, transition_record, record_rows, transition_refusal, or_else, net_header_of, header_fault, transition_fault, transitions_fault, net_fault, tested}
 use Rattle.net_records.specs.Parts.{Unread, past}
 use Rattle.net_records.specs.Refusals.{NetFault}
 use Rattle.net_records.specs.declared.fault.NetRefusal.{NetRefusal}
@@ -38,17 +38,17 @@ pub read_err : (h : NetHeader) (bytes : List ℕ) (e : NetRefusal) → Err e ≡
 unfolding transition_refusal
 read_err h bytes e is = by_test (ltb (length bytes) 41) is
   where
-    by_test : (short : Bool) → Err e ≡ cond short (Err BytesMissing) (Ok (transition_record bytes)) → Err e ≡ tested {X = Unit {0}} tt (cond short (Some BytesMissing) (find (record_has h (transition_record bytes)) in_order))
+    by_test : (short : Bool) → Err e ≡ cond short (Err BytesMissing) (Ok (transition_record bytes)) → Err e ≡ tested {X = Unit {0}} tt (cond short (Some BytesMissing) (first_refusal (record_rows h (transition_record bytes))))
     by_test true same = ap Err (cc)
     by_test false same = let z : ◌≡◌ {A = ℕ} 0 1 = cc in absurd (omega arith)
 
-pub read_ok : (h : NetHeader) (bytes : List ℕ) (v : TransitionRecord) → Ok v ≡ cond (ltb (length bytes) 41) (Err BytesMissing) (Ok (transition_record bytes)) → tested {X = Unit {0}} tt (find (record_has h v) in_order) ≡ tested tt (transition_refusal h bytes)
+pub read_ok : (h : NetHeader) (bytes : List ℕ) (v : TransitionRecord) → Ok v ≡ cond (ltb (length bytes) 41) (Err BytesMissing) (Ok (transition_record bytes)) → tested {X = Unit {0}} tt (first_refusal (record_rows h v)) ≡ tested tt (transition_refusal h bytes)
 unfolding transition_refusal
 read_ok h bytes v is = by_test (ltb (length bytes) 41) is
   where
-    by_test : (short : Bool) → Ok v ≡ cond short (Err BytesMissing) (Ok (transition_record bytes)) → tested {X = Unit {0}} tt (find (record_has h v) in_order) ≡ tested tt (cond short (Some BytesMissing) (find (record_has h (transition_record bytes)) in_order))
+    by_test : (short : Bool) → Ok v ≡ cond short (Err BytesMissing) (Ok (transition_record bytes)) → tested {X = Unit {0}} tt (first_refusal (record_rows h v)) ≡ tested tt (cond short (Some BytesMissing) (first_refusal (record_rows h (transition_record bytes))))
     by_test true same = let z : ◌≡◌ {A = ℕ} 0 1 = cc in absurd (omega arith)
-    by_test false same = let e : v ≡ transition_record bytes = cc in ap (λ r. tested tt (find (record_has h r) in_order)) e
+    by_test false same = let e : v ≡ transition_record bytes = cc in ap (λ r. tested tt (first_refusal (record_rows h r))) e
 
 -- the transitions that are left have the fault that all of them have
 abbrev pub Walked : NetHeader → ℕ → Unread → List ℕ → Type 0

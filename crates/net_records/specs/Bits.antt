@@ -1,5 +1,6 @@
--- Fields of bits in a row of bytes, most significant bit first. Assumes nothing.
-use Rattle.std.specs.Prelude.{ℕ, zero, suc, ◌+◌, ◌-◌, ◌*◌, ◌/◌, ◌%◌, ◌^◌, Bool, List, ◌==◌, slice_index}
+-- Fields of bits in a row of bytes, most significant bit first.
+use Rattle.std.specs.Prelude.{ℕ, zero, suc, ◌+◌, ◌-◌, ◌*◌, ◌/◌, ◌%◌, ◌^◌, Bool, List, ◌==◌}
+use Rattle.std.specs.Prelude.{slice_index}
 
 -- bit i: 0 is the topmost bit of the first byte
 abbrev pub bit : List ℕ → ℕ → ℕ

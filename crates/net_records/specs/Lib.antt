@@ -1,3 +1,4 @@
+pub mod Sizes
 pub mod Rows
 pub mod Bits
 pub mod Slots

@@ -1,5 +1,6 @@
 -- What a reader holds, and what it hands on.
-use Rattle.std.specs.Prelude.{◌≡◌, ℕ, ◌+◌, ◌<◌, ◌≤◌, ◌⊎◌, List, length, take, drop, is_ok, IsTrue, Ok, Err, Result, if◌then◌else◌, nat_le}
+use Rattle.std.specs.Prelude.{◌≡◌, ℕ, ◌+◌, ◌<◌, ◌≤◌, ◌⊎◌, List, length, take, drop, is_ok, IsTrue}
+use Rattle.std.specs.Prelude.{Ok, Err, Result, if◌then◌else◌, nat_le}
 use Rattle.net_records.specs.declared.fault.Missing.{Missing}
 use Rattle.net_records.specs.declared.reader.Part.{Part}
 

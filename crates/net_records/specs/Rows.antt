@@ -3,6 +3,7 @@
 --     table      rows in ascending number; the first that holds is the answer
 use Rattle.std.specs.Prelude.{◌≡◌, ℕ, Bool, List, [], ◌∷◌, Some, None, Ok, Err, Option, Result}
 use Rattle.std.specs.Prelude.{if◌then◌else◌}
+use Rattle.std.specs.Prelude.{if◌then◌else◌}
 
 pub record Row (R : Type 0) : Type 0 where
   pub number : ℕ

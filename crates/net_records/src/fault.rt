@@ -1,11 +1,11 @@
-// Faults of records: what is wrong, and in which record.
+//! Faults of records: what is wrong, and in which record.
 ghost use Rattle.net_records.specs.Refusals.{refusal_number, refusal_text, located};
 ghost use Rattle.net_records.specs.declared.fault.NetRefusal.TheVariants.{BytesMissing};
 ghost use Rattle.std.specs.Prelude.{◌≡◌, ℕ, List, Some, refl};
 
 use std::fmt;
 
-// Why a record is refused. Each refusal has a number and a text.
+/// Why a record is refused. Each refusal has a number and a text.
 pub trait Refusal: Copy + fmt::Display {
     ghost number_of: { Self → ℕ };
 
@@ -13,27 +13,28 @@ pub trait Refusal: Copy + fmt::Display {
 
     ghost missing: { Self };
 
+    /// The refusal's number.
     fn number(self) -> u8
         ensures { result ≡ number_of self };
 
-    // The refusal of a record whose bytes are not there.
+    /// The refusal of a record whose bytes are not there.
     fn missing() -> Self
         ensures { result ≡ missing };
 
     ghost displays: { (r : Self) → Self.output r ≡ Some (text_of r) };
 }
 
-// Why a net record is refused, by number.
+/// Why a net record is refused, by number.
 #[derive(Clone, Copy, PartialEq, Eq, Debug)]
 pub enum NetRefusal {
     BytesMissing = 10,
-    // a spare or unused field
+    /// a spare or unused field
     NotZero = 11,
-    // a count or kind
+    /// a count, kind or range end
     OutsideLimits = 12,
     NoSuchPlace = 13,
     MarkUnderPlain = 14,
-    // the bounds of a range sum below zero
+    /// the bounds of a range sum below zero
     EmptyRange = 15,
 }
 
@@ -62,7 +63,7 @@ impl fmt::Display for NetRefusal {
         f.write_str(match self {
             NetRefusal::BytesMissing => "bytes are missing",
             NetRefusal::NotZero => "a spare or unused field is not zero",
-            NetRefusal::OutsideLimits => "a count or the kind is outside its limits",
+            NetRefusal::OutsideLimits => "a count, kind or range end is outside its limits",
             NetRefusal::NoSuchPlace => "a place is not in the net",
             NetRefusal::MarkUnderPlain => "a strict mark under plain kind",
             NetRefusal::EmptyRange => "the bounds of a range sum below zero",
@@ -70,13 +71,14 @@ impl fmt::Display for NetRefusal {
     }
 }
 
-// A refusal, and which record has it. Records are counted from 0.
+/// A refusal, and which record has it. Records are counted from 0.
 #[derive(Clone, Copy, PartialEq, Eq, Debug)]
 pub struct Fault<R> {
     pub refusal: R,
     pub at: usize,
 }
 
+/// A refusal of a net record, with its record.
 pub type NetFault = Fault<NetRefusal>;
 
 impl<R: Refusal> fmt::Display for Fault<R> {
@@ -90,7 +92,7 @@ impl<R: Refusal> fmt::Display for Fault<R> {
     }
 }
 
-// The bytes end before the record does.
+/// The bytes end before the record does.
 #[derive(Clone, Copy, PartialEq, Eq, Debug)]
 pub struct Missing {
     pub at: usize,

@@ -1,16 +1,17 @@
-// The net header: how many places and transitions, and of which kind the bounds are.
+//! The net header: how many places and transitions, and of which kind the bounds are.
 ghost use Rattle.net_records.specs.NetRecords.{net_header_of, header_refusal, tested};
 ghost use Rattle.std.specs.Prelude.{◌≡◌};
 
 use crate::fault::NetRefusal;
 
-// Whether bounds may carry strict marks.
+/// Whether bounds may carry strict marks.
 #[derive(Clone, Copy, PartialEq, Eq, Debug)]
 pub enum NetKind {
     Plain,
     Marked,
 }
 
+/// What the net header says.
 #[derive(Clone, Copy, PartialEq, Eq, Debug)]
 pub struct NetHeader {
     pub kind: NetKind,
@@ -19,9 +20,10 @@ pub struct NetHeader {
 }
 
 impl NetHeader {
+    /// How many bytes the net header has.
     pub const SIZE: usize = 4;
 
-    // The header at the front of the bytes, or what is wrong with it, lowest number first.
+    /// The header at the front of the bytes, or what is wrong with it, lowest number first.
     pub(crate) fn read(bytes: &[u8]) -> Result<NetHeader, NetRefusal>
         ensures { result ≡ tested (net_header_of bytes.now) (header_refusal bytes.now) }
     {

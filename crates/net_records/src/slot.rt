@@ -1,26 +1,29 @@
-// Arc slots: a place and a range in five bytes.
+//! Arc slots: a place and a range in five bytes.
+ghost use Rattle.net_records.specs.Sizes.{slot_size};
 ghost use Rattle.net_records.specs.Slots.{slot_of, is_unused, is_empty, has_mark, has_stray_bit};
-ghost use Rattle.std.specs.Prelude.{◌≡◌, ◌/◌, ◌%◌, ◌^◌, ◌<◌, ◌≤◌, length, take, drop, MatchOption, ◌==◌};
+ghost use Rattle.std.specs.Prelude.{◌≡◌, ◌/◌, ◌%◌, ◌^◌, ◌<◌, ◌≤◌, length, take, drop, MatchOption};
+ghost use Rattle.std.specs.Prelude.{◌==◌};
 
-// One end of a range as its 16 bits say it: never below zero, as a number with a mark may be.
+/// One end of a range as its 16 bits say it: never below zero, as a number with a mark may be.
 #[derive(Clone, Copy, PartialEq, Eq, Debug)]
 pub struct End {
     pub strict: bool,
     pub number: u16,
 }
 
+/// What the five bytes of an arc say.
 #[derive(Clone, Copy, PartialEq, Eq, Debug)]
 pub struct Slot {
     pub place: u8,
     pub lower: End,
-    // None: no limit above
+    /// none is no limit above
     pub upper: Option<End>,
-    // what stands in the upper end's bits where there is no limit
+    /// what stands in the upper end's bits where there is no limit
     pub unused: End,
     pub spare: bool,
 }
 
-// A bit of a byte, counted from the lowest.
+/// A bit of a byte, counted from the lowest.
 fn bit(byte: u8, place: u8) -> bool
     requires { place < 8 }
     ensures { result ≡ (byte / 2 ^ place % 2 == 1) }
@@ -36,8 +39,10 @@ impl End {
 }
 
 impl Slot {
-    pub(crate) const SIZE: usize = 5;
+    /// How many bytes a slot has.
+    pub const SIZE: usize = 5;
 
+    /// The slot whose bits are all zero.
     pub const BLANK: Slot = Slot {
         place: 0,
         lower: End::ZERO,
@@ -46,9 +51,13 @@ impl Slot {
         spare: false,
     };
 
-    // The slot at the front of the bytes, and the bytes that follow it.
+    /// The slot at the front of the bytes, and the bytes that follow it.
     pub fn split(bytes: &[u8]) -> Option<(Slot, &[u8])>
-        ensures { MatchOption result (length bytes.now < 5) (λ p. (5 ≤ length bytes.now) × (p.0 ≡ slot_of (take 5 bytes.now)) × (p.1.now ≡ drop 5 bytes.now)) }
+        ensures { MatchOption result
+            (length bytes.now < slot_size)
+            (λ p. (slot_size ≤ length bytes.now)
+            × (p.0 ≡ slot_of (take slot_size bytes.now))
+            × (p.1.now ≡ drop slot_size bytes.now)) }
     {
         let [a, b, c, d, e, rest @ ..] = bytes else {
             return None;
@@ -72,14 +81,15 @@ impl Slot {
         Some((slot, rest))
     }
 
-    pub(crate) fn is_unused(self) -> bool
+    /// Whether every bit is zero.
+    pub fn is_unused(self) -> bool
         ensures { result ≡ is_unused self }
     {
         self == Slot::BLANK
     }
 
-    // Whether the bounds of the range sum below zero.
-    pub(crate) fn is_empty(self) -> bool
+    /// Whether the bounds of the range sum below zero.
+    pub fn is_empty(self) -> bool
         ensures { result ≡ is_empty self }
     {
         let lower = self.lower;
@@ -89,15 +99,15 @@ impl Slot {
         })
     }
 
-    // Whether an end has a mark, also one behind no limit.
-    pub(crate) fn has_mark(self) -> bool
+    /// Whether an end has a mark, also one behind no limit.
+    pub fn has_mark(self) -> bool
         ensures { result ≡ has_mark self }
     {
         self.lower.strict || self.upper.is_some_and(|upper| upper.strict) || self.unused.strict
     }
 
-    // Whether a bit that says nothing is set.
-    pub(crate) fn has_stray_bit(self) -> bool
+    /// Whether a bit that says nothing is set.
+    pub fn has_stray_bit(self) -> bool
         ensures { result ≡ has_stray_bit self }
     {
         self.spare || self.unused != End::ZERO

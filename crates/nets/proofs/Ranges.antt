@@ -1,9 +1,13 @@
--- When the range between two ends keeps the limits of a net. Assumes nothing.
-use Rattle.std.proofs.Common.{◌≡◌, ℕ, ◌≤◌, Bool, true, false, ◌&&◌, ◌||◌, leb, ℤ, pos, ◌+ℤ◌, neg_ℤ, nat_abs, sym, refl, ap, ◌∙◌, inl, inr, arith}
+-- When the range between two ends keeps the limits of a net.
+use Rattle.std.proofs.Common.{◌≡◌, ℕ, ◌≤◌, Bool, true, false, ◌&&◌, ◌||◌, leb, ℤ, pos, ◌+ℤ◌, neg_ℤ, nat_abs, sym, refl, ap, ap₂, ◌∙◌, inl, inr, arith}
 use borrow.Author.Differences.{ints}
 use lib.Signed.{le_z}
-use Rattle.std.proofs.lemmas.Bool.{false≢true, le-leb, and_parts, cond-true}
+use Rattle.std.proofs.Math.Bool.{and-true}
+use Rattle.std.proofs.lemmas.Bool.{false≢true, not-false, le-leb, and_parts, cond-true}
 use Rattle.bounds.specs.Kinds.{Kind, Named, largest_size, place}
+use Rattle.bounds.specs.MarkedKind.{marked_kind}
+use Rattle.bounds.specs.Ranges.{below_zero}
+use Rattle.bounds.specs.declared.range.Range.{Range}
 use Rattle.nets.specs.Nets.{largest_end, Ended, RangeLimits}
 
 -- fewer marks only raise a sum
@@ -30,6 +34,11 @@ difference l u = pos u +ℤ neg_ℤ (pos l)
 pub small_difference : (l u : ℕ) → l ≤ largest_end → u ≤ largest_end → nat_abs (difference l u) ≤ largest_size
 small_difference l u low_small high_small = omega (arith, ints)
 
+-- the range from l to u, with the marks that the kind takes
+abbrev pub range_of : {B : Type 0} → Kind B → ℕ → Bool → ℕ → Bool → Range B
+range_of kind l s u t =
+    record { upper = kind.number (pos u) (t && kind.marks); lower = kind.number (neg_ℤ (pos l)) (s && kind.marks) }
+
 module _ {B : Type 0} (kind : Kind B) where
   takes : (s : Bool) → (s && kind.marks) ≡ true → kind.marks ≡ true
   takes s e = (and_parts s kind.marks e).1
@@ -37,9 +46,23 @@ module _ {B : Type 0} (kind : Kind B) where
   named : (c : ℤ) (s : Bool) → nat_abs c ≤ largest_size → Named kind.marks c (s && kind.marks)
   named c s small = record { small = small; takes = takes s }
 
+  -- how the sum of two ends, with the marks that the kind takes, lies to zero
+  pub ends_order : (l : ℕ) (s : Bool) → l ≤ largest_end → (u : ℕ) (t : Bool) → u ≤ largest_end → kind.at_most kind.zero (kind.sum (kind.number (pos u) (t && kind.marks)) (kind.number (neg_ℤ (pos l)) (s && kind.marks))) ≡ le_z (place (pos 0) false) (place (difference l u) ((t && kind.marks) || (s && kind.marks)))
+  ends_order l s low_small u t high_small =
+      let m = kind.marks in
+      let d = difference l u in
+      let mark = (t && m) || (s && m) in
+      let within = small_difference l u low_small high_small in
+      let sum = kind.numbers_sum (pos u) (neg_ℤ (pos l)) (t && m) (s && m) (named (pos u) t (omega (arith, ints))) (named (neg_ℤ (pos l)) s (omega (arith, ints))) in
+      let kept = cond-true (leb (nat_abs d) largest_size) (kind.number d mark) kind.no_limit (le-leb (nat_abs d) largest_size within) in
+      let from : Named m (pos 0) false = record { small = omega (arith, ints); takes = λ e. absurd (false≢true e) } in
+      let order = kind.numbers_order (pos 0) d false mark from (record { small = within; takes = either_mark t s m }) in
+      ap (kind.at_most kind.zero) (sum ∙ kept) ∙ ap (λ z. kind.at_most z (kind.number d mark)) (sym kind.number_zero) ∙ order
+
+module _ {B : Type 0} (kind : Kind B) where
   module _ (l : ℕ) (s : Bool) (low_small : l ≤ largest_end) where
     low_end : Ended kind (λ n. neg_ℤ (pos n)) (kind.number (neg_ℤ (pos l)) (s && kind.marks))
-    low_end = record { end = l; strict = s && kind.marks; small = low_small; takes = takes s; is = refl }
+    low_end = record { end = l; strict = s && kind.marks; small = low_small; takes = takes kind s; is = refl }
 
     -- without limit above
     pub open_range : RangeLimits kind (record { upper = kind.no_limit; lower = kind.number (neg_ℤ (pos l)) (s && kind.marks) })
@@ -51,18 +74,13 @@ module _ {B : Type 0} (kind : Kind B) where
         }
 
     -- up to u, where the marked ends do not sum below zero
-    pub closed_range : (u : ℕ) (t : Bool) → u ≤ largest_end → le_z (place (pos 0) false) (place (difference l u) (t || s)) ≡ true → RangeLimits kind (record { upper = kind.number (pos u) (t && kind.marks); lower = kind.number (neg_ℤ (pos l)) (s && kind.marks) })
+    pub closed_range : (u : ℕ) (t : Bool) → u ≤ largest_end → below_zero marked_kind (range_of marked_kind l s u t) ≡ false → RangeLimits kind (range_of kind l s u t)
     closed_range u t high_small h =
         let m = kind.marks in
-        let d = difference l u in
-        let mark = (t && m) || (s && m) in
-        let within = small_difference l u low_small high_small in
-        let sum = kind.numbers_sum (pos u) (neg_ℤ (pos l)) (t && m) (s && m) (named (pos u) t (omega (arith, ints))) (named (neg_ℤ (pos l)) s (omega (arith, ints))) in
-        let kept = cond-true (leb (nat_abs d) largest_size) (kind.number d mark) kind.no_limit (le-leb (nat_abs d) largest_size within) in
-        let from : Named m (pos 0) false = record { small = omega (arith, ints); takes = λ e. absurd (false≢true e) } in
-        let order = kind.numbers_order (pos 0) d false mark from (record { small = within; takes = either_mark t s m }) in
+        let marked = sym (ends_order marked_kind l s low_small u t high_small) ∙ not-false _ h in
+        let both : le_z (place (pos 0) false) (place (difference l u) (t || s)) ≡ true = ap₂ (λ a b. le_z (place (pos 0) false) (place (difference l u) (a || b))) (sym (and-true t)) (sym (and-true s)) ∙ marked in
         record {
           lower = low_end;
-          upper = inr (record { end = u; strict = t && m; small = high_small; takes = takes t; is = refl });
-          sum = ap (kind.at_most kind.zero) (sum ∙ kept) ∙ ap (λ z. kind.at_most z (kind.number d mark)) (sym kind.number_zero) ∙ order ∙ raised d t s m h;
+          upper = inr (record { end = u; strict = t && m; small = high_small; takes = takes kind t; is = refl });
+          sum = ends_order kind l s low_small u t high_small ∙ raised (difference l u) t s m both;
         }

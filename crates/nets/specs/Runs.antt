@@ -3,7 +3,7 @@
 --     firing    one token for each input arc is removed, and one for each output arc added; the others stay
 --     run       a finite list, perhaps empty, of delays and firings
 -- Assumes nothing.
-use Rattle.std.specs.Prelude.{ℕ, ◌≤◌, List, [], ◌++◌, length}
+use Rattle.std.specs.Prelude.{ℕ, ◌≤◌, List, ◌++◌, length}
 use Rattle.bounds.specs.Kinds.{Kind}
 use Rattle.nets.specs.Markings.{Token, Marking, Permuted, aged, refined, FitsAll}
 use Rattle.nets.specs.Nets.{Net, Transition, no_transition, transition_of}

@@ -34,7 +34,7 @@ fn net_record(heap: Global) -> Result<Vec<u8>, AllocError> {
 fn a_firing_narrows_before_it_takes_off(rt: HostRuntime) -> Result<(), Fail> {
     let heap = rt.alloc();
     let bytes = net_record(heap)?;
-    let store = PackedNet::new(&bytes);
+    let store = PackedNet::read(&bytes).ok().ok_or("no net")?;
     let mut cells = draft(heap, &IN_B_AND_C, &[(1, 2, 0), (2, 1, 0)])?;
     let tokens = firing_predecessor(&mut cells, &[B, C], &store, 1, 0x2000).ok_or("void")?;
     assert_eq!(rt; tokens.as_slice(), [B, A].as_slice());
@@ -57,7 +57,7 @@ fn a_firing_narrows_before_it_takes_off(rt: HostRuntime) -> Result<(), Fail> {
 #[test]
 fn matchings_in_ascending_order(rt: HostRuntime) -> Result<(), Fail> {
     let bytes = net_record(rt.alloc())?;
-    let store = PackedNet::new(&bytes);
+    let store = PackedNet::read(&bytes).ok().ok_or("no net")?;
     let places = [B, C, C];
     for matching in [0, 0x2000, 0x3000] {
         assert!(rt; is_matching::<PlainBound, _>(&store, 1, &places, matching));

@@ -1,5 +1,6 @@
 use Rattle.std.proofs.Common.{refl}
 use Rattle.std.proofs.lemmas.Result.{err_from_is_err_and}
+use Rattle.net_records.proofs.Numbers.{fault_numbered}
 use Rattle.net_records.proofs.Walks.{tested_ok, tested_err, tested_none, tested_some, walked_none, walked_more, walked_fault, walked_all, header_clean}
 use Rattle.net_records.proofs.net.check_net.Goals as goal
 
@@ -15,7 +16,8 @@ returns-in_err-check_transition c =
     let f = c.in_err-check_transition.field-0.0 in
     let fault = tested_err tt f _ c.in_err-check_transition.ensures.answer in
     let p = err_from_is_err_and c.from_residual-in_err-check_transition.result c.from_residual-in_err-check_transition.ensures.1 in
-    rw (p.1, p.2) (tested_some _ f _ (walked_fault h c.loop.counter c.loop.reader bytes c.loop-test.true c.loop.invariant f fault clean.0 clean.1))
+    let first = walked_fault h c.loop.counter c.loop.reader bytes c.loop-test.true c.loop.invariant f fault clean.0 clean.1 in
+    rw (p.1, p.2) (record { answer = tested_some _ f _ first; number = fault_numbered bytes f first })
 
 pub loop-preserved : goal.loop-preserved
 loop-preserved c =
@@ -27,4 +29,7 @@ returns c =
     let bytes = c.args.bytes.now in
     let h = c.in_ok-header.header in
     let clean = header_clean bytes c.new-reader.result h c.new-reader.ensures c.in_ok-header.ensures.answer in
-    tested_none _ h _ (walked_all h c.loop.counter c.loop.reader bytes c.loop-test.false c.loop.invariant clean.0 clean.1) clean.1
+    record {
+      answer = tested_none _ h _ (walked_all h c.loop.counter c.loop.reader bytes c.loop-test.false c.loop.invariant clean.0 clean.1) clean.1;
+      number = tt;
+    }

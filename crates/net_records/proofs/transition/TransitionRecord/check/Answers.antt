@@ -1,49 +1,54 @@
-use Rattle.std.proofs.Common.{◌≡◌, true, false, sym, ap, ◌∙◌, rules, tests}
+use Rattle.std.proofs.Common.{◌≡◌, true, false, not, ◌||◌, ltb, eqb, sym, ap, ◌∙◌, rules, tests}
 use Rattle.std.proofs.lemmas.Bool.{cond-true, cond-false}
-use Rattle.net_records.specs.NetRecords.{record_has, tested}
-use Rattle.net_records.specs.declared.fault.NetRefusal.TheVariants.{NotZero, OutsideLimits, NoSuchPlace, MarkUnderPlain, EmptyRange}
-use Rattle.net_records.proofs.Rows.{no_slot_outside}
+use Rattle.net_records.specs.NetRecords.{some_slot, not_zero, place_missing, mark_under_plain, empty_range, tested}
 use Rattle.net_records.proofs.transition.TransitionRecord.check.Goals as goal
 
 pub returns-then-some_slot-2 : goal.returns-then-some_slot-2
 returns-then-some_slot-2 c =
-    let has = record_has c.args.header c.args.self.now in
-    let clean : has NotZero ≡ false = search (rules, tests) in
-    let few : has OutsideLimits ≡ false = search (rules, tests, no_slot_outside c.args.header c.args.self.now 0 c.args.self.now.slots) in
-    let missing : has NoSuchPlace ≡ true = search (rules, tests) in
-    ap (tested tt) (sym (cond-false (has NotZero) _ _ clean ∙ cond-false (has OutsideLimits) _ _ few ∙ cond-true (has NoSuchPlace) _ _ missing))
+    let h = c.args.header in
+    let r = c.args.self.now in
+    let clean : (not (eqb r.spare 0) || some_slot not_zero r) ≡ false = search (rules, tests) in
+    let few : (ltb 4 r.inputs || ltb 4 r.outputs) ≡ false = search (rules, tests) in
+    let places = c.some_slot-2.ensures (place_missing h) (λ side s b q. search (rules, q)) in
+    let missing : some_slot (place_missing h) r ≡ true = search (rules, tests, places) in
+    ap (tested tt) (sym (cond-false _ _ _ clean ∙ cond-false _ _ _ few ∙ cond-true _ _ _ missing))
 
 pub returns-then-some_slot-3 : goal.returns-then-some_slot-3
 returns-then-some_slot-3 c =
-    let has = record_has c.args.header c.args.self.now in
-    let clean : has NotZero ≡ false = search (rules, tests) in
-    let few : has OutsideLimits ≡ false = search (rules, tests, no_slot_outside c.args.header c.args.self.now 0 c.args.self.now.slots) in
-    let places = c.some_slot-2.ensures NoSuchPlace c.args.header (λ used s b q. search (rules, q)) in
-    let there : has NoSuchPlace ≡ false = search (rules, tests, places) in
-    let marked : has MarkUnderPlain ≡ true = search (rules, tests) in
-    ap (tested tt) (sym (cond-false (has NotZero) _ _ clean ∙ cond-false (has OutsideLimits) _ _ few ∙ cond-false (has NoSuchPlace) _ _ there ∙ cond-true (has MarkUnderPlain) _ _ marked))
+    let h = c.args.header in
+    let r = c.args.self.now in
+    let clean : (not (eqb r.spare 0) || some_slot not_zero r) ≡ false = search (rules, tests) in
+    let few : (ltb 4 r.inputs || ltb 4 r.outputs) ≡ false = search (rules, tests) in
+    let places = c.some_slot-2.ensures (place_missing h) (λ side s b q. search (rules, q)) in
+    let there : some_slot (place_missing h) r ≡ false = search (rules, tests, places) in
+    let marks = c.some_slot-3.ensures (mark_under_plain h) (λ side s b q. search (rules, q)) in
+    let marked : some_slot (mark_under_plain h) r ≡ true = search (rules, tests, marks) in
+    ap (tested tt) (sym (cond-false _ _ _ clean ∙ cond-false _ _ _ few ∙ cond-false _ _ _ there ∙ cond-true _ _ _ marked))
 
 pub returns-then-some_slot-4 : goal.returns-then-some_slot-4
 returns-then-some_slot-4 c =
-    let has = record_has c.args.header c.args.self.now in
-    let clean : has NotZero ≡ false = search (rules, tests) in
-    let few : has OutsideLimits ≡ false = search (rules, tests, no_slot_outside c.args.header c.args.self.now 0 c.args.self.now.slots) in
-    let places = c.some_slot-2.ensures NoSuchPlace c.args.header (λ used s b q. search (rules, q)) in
-    let there : has NoSuchPlace ≡ false = search (rules, tests, places) in
-    let marks = c.some_slot-3.ensures MarkUnderPlain c.args.header (λ used s b q. search (rules, q)) in
-    let plain : has MarkUnderPlain ≡ false = search (rules, tests, marks) in
-    let empty : has EmptyRange ≡ true = search (rules, tests) in
-    ap (tested tt) (sym (cond-false (has NotZero) _ _ clean ∙ cond-false (has OutsideLimits) _ _ few ∙ cond-false (has NoSuchPlace) _ _ there ∙ cond-false (has MarkUnderPlain) _ _ plain ∙ cond-true (has EmptyRange) _ _ empty))
+    let h = c.args.header in
+    let r = c.args.self.now in
+    let clean : (not (eqb r.spare 0) || some_slot not_zero r) ≡ false = search (rules, tests) in
+    let few : (ltb 4 r.inputs || ltb 4 r.outputs) ≡ false = search (rules, tests) in
+    let places = c.some_slot-2.ensures (place_missing h) (λ side s b q. search (rules, q)) in
+    let there : some_slot (place_missing h) r ≡ false = search (rules, tests, places) in
+    let marks = c.some_slot-3.ensures (mark_under_plain h) (λ side s b q. search (rules, q)) in
+    let plain : some_slot (mark_under_plain h) r ≡ false = search (rules, tests, marks) in
+    let ranges = c.some_slot-4.ensures empty_range (λ side s b q. search (rules, q)) in
+    let empty : some_slot empty_range r ≡ true = search (rules, tests, ranges) in
+    ap (tested tt) (sym (cond-false _ _ _ clean ∙ cond-false _ _ _ few ∙ cond-false _ _ _ there ∙ cond-false _ _ _ plain ∙ cond-true _ _ _ empty))
 
 pub returns : goal.returns
 returns c =
-    let has = record_has c.args.header c.args.self.now in
-    let clean : has NotZero ≡ false = search (rules, tests) in
-    let few : has OutsideLimits ≡ false = search (rules, tests, no_slot_outside c.args.header c.args.self.now 0 c.args.self.now.slots) in
-    let places = c.some_slot-2.ensures NoSuchPlace c.args.header (λ used s b q. search (rules, q)) in
-    let there : has NoSuchPlace ≡ false = search (rules, tests, places) in
-    let marks = c.some_slot-3.ensures MarkUnderPlain c.args.header (λ used s b q. search (rules, q)) in
-    let plain : has MarkUnderPlain ≡ false = search (rules, tests, marks) in
-    let ranges = c.some_slot-4.ensures EmptyRange c.args.header (λ used s b q. search (rules, q)) in
-    let some : has EmptyRange ≡ false = search (rules, tests, ranges) in
-    ap (tested tt) (sym (cond-false (has NotZero) _ _ clean ∙ cond-false (has OutsideLimits) _ _ few ∙ cond-false (has NoSuchPlace) _ _ there ∙ cond-false (has MarkUnderPlain) _ _ plain ∙ cond-false (has EmptyRange) _ _ some))
+    let h = c.args.header in
+    let r = c.args.self.now in
+    let clean : (not (eqb r.spare 0) || some_slot not_zero r) ≡ false = search (rules, tests) in
+    let few : (ltb 4 r.inputs || ltb 4 r.outputs) ≡ false = search (rules, tests) in
+    let places = c.some_slot-2.ensures (place_missing h) (λ side s b q. search (rules, q)) in
+    let there : some_slot (place_missing h) r ≡ false = search (rules, tests, places) in
+    let marks = c.some_slot-3.ensures (mark_under_plain h) (λ side s b q. search (rules, q)) in
+    let plain : some_slot (mark_under_plain h) r ≡ false = search (rules, tests, marks) in
+    let ranges = c.some_slot-4.ensures empty_range (λ side s b q. search (rules, q)) in
+    let some : some_slot empty_range r ≡ false = search (rules, tests, ranges) in
+    ap (tested tt) (sym (cond-false _ _ _ clean ∙ cond-false _ _ _ few ∙ cond-false _ _ _ there ∙ cond-false _ _ _ plain ∙ cond-false _ _ _ some))

@@ -2,7 +2,7 @@ use Rattle.std.proofs.Common.{take, drop, sym, ap, ◌∙◌}
 use Rattle.net_records.specs.NetRecords.{net_header_of}
 use Rattle.net_records.specs.declared.header.NetHeader.{NetHeader}
 use Rattle.net_records.proofs.Stores.{length_transitions}
-use Rattle.net_records.proofs.packed.store.PackedNetNetStore.transitions.Goals as goal
+use Rattle.net_records.proofs.packed.PackedNetNetStore.transitions.Goals as goal
 
 pub returns : goal.returns
 returns g c =

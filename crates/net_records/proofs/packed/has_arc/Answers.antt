@@ -1,6 +1,6 @@
 use Rattle.std.proofs.Common.{◌≡◌, ◌&&◌, leb, ap, ◌∙◌, rules, tests}
 use Rattle.net_records.proofs.Fields.{counted}
-use Rattle.net_records.proofs.packed.answers.has_arc.Goals as goal
+use Rattle.net_records.proofs.packed.has_arc.Goals as goal
 
 pub returns : goal.returns
 returns c =

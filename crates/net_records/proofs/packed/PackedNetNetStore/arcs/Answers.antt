@@ -1,6 +1,6 @@
 use Rattle.std.proofs.Common.{◌∙◌}
 use Rattle.net_records.proofs.Stores.{answered_arcs}
-use Rattle.net_records.proofs.packed.store.PackedNetNetStore.arcs.Goals as goal
+use Rattle.net_records.proofs.packed.PackedNetNetStore.arcs.Goals as goal
 
 pub returns : goal.returns
 returns g c =

@@ -21,3 +21,6 @@ pub mod KeptVouch
 pub mod KeptReach
 pub mod KeptClosed
 pub mod Kept
+pub mod OneAnswer
+pub mod OnePage
+pub mod OneStep

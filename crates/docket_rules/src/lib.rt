@@ -5,5 +5,5 @@
 pub mod laws;
 pub mod stage;
 
-pub use laws::seals_keep_promises;
+pub use laws::{calls_keep_laws, seals_keep_promises};
 pub use stage::Stage;

@@ -63,5 +63,5 @@ module _ {B : Type 0} (kind : Kind B) (w : World B) where
     item_held =
         let page = page_of kind w d.zone in
         let formed = sound.pages d.zone (omega (arith, item_inside, sound.opened (ap is_proving proving))) in
-        let held : PageHolds kind page (places_at w d.zone) (cells_at w d.zone) = record { same = itself page; few = formed.few; normal = formed.normal; small = formed.small } in
+        let held : PageHolds kind page (places_at w d.zone) (cells_at w d.zone) = record { same = itself page; formed = formed } in
         subst (λ z. PageHolds kind z (places_at w d.zone) (cells_at w d.zone)) (sym (page_named d.zone item_inside)) held

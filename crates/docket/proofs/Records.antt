@@ -95,7 +95,7 @@ module _ {B : Type 0} (kind : Kind B) (z : Zone B) (draft : List B) (tokens : Li
   page_formed : PageFormed kind form
   page_formed =
       subst (λ ps. PageFormed kind (draft_zone kind ps draft)) (sym places)
-      (record { few = formed.workable.few; normal = formed.workable.normal; small = formed.workable.small })
+      formed.workable.formed
 
   pub few_tokens : length tokens ≤ 8
   few_tokens = page_formed.few

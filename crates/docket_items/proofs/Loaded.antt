@@ -25,7 +25,7 @@ module _ {B : Type 0} (kind : Kind B) (page_places : List ℕ) (page before draf
 
   module _ (z : Zone B) (full : length before ≡ 169) (holds : PageHolds kind z page_places page) where
     few : length page_places ≤ 8
-    few = let same = ap length holds.same.places in omega (arith, same, holds.few)
+    few = let same = ap length holds.same.places in omega (arith, same, holds.formed.few)
 
     same : SameZone z (draft_zone kind page_places draft)
     same =
@@ -43,9 +43,11 @@ module _ {B : Type 0} (kind : Kind B) (page_places : List ℕ) (page before draf
     workable =
         record {
           full = kept ∙ full;
-          few = few;
-          normal = normal_same kind z (draft_zone kind page_places draft) same holds.normal;
-          small = sized_same kind z (draft_zone kind page_places draft) same largest_listed holds.small;
+          formed = record {
+            few = few;
+            normal = normal_same kind z (draft_zone kind page_places draft) same holds.formed.normal;
+            small = sized_same kind z (draft_zone kind page_places draft) same largest_listed holds.formed.small;
+          };
         }
 
   module _ (net : Net B) where

@@ -1,21 +1,19 @@
 -- The zone of an item, made in a draft from the page of the item's zone.
 -- Assumes nothing.
-use Rattle.std.specs.Prelude.{◌≡◌, ℕ, ◌≤◌, List, length, Some, None, Option}
+use Rattle.std.specs.Prelude.{◌≡◌, ℕ, List, length, Some, None, Option}
 use Rattle.arrayvec.specs.ArrayVec.{ArrayVec}
 use Rattle.bounds.specs.Kinds.{Kind}
-use Rattle.zone_cells.specs.Drafts.{draft_zone, largest_listed, most_tokens, page_zone}
+use Rattle.zone_cells.specs.Drafts.{PageFormed, draft_zone, page_zone}
 use Rattle.nets.specs.Nets.{Net}
-use Rattle.zones.specs.Zones.{Zone, InNormalForm, SizedZone}
+use Rattle.zones.specs.Zones.{Zone}
 use Rattle.docket_dues.specs.Answered.{SameZone, ItemZone, VoidItem, places_of_all, zone_named}
 use Rattle.docket_dues.specs.DueLaws.{IsDue}
 use Rattle.docket_dues.specs.declared.item.Item.{Item}
 
--- the page holds the zone, which is in normal form and small
+-- the page holds the zone, in the form that pages have
 pub record PageHolds {B : Type 0} (kind : Kind B) (z : Zone B) (page_places : List ℕ) (page : List B) : Type 0 where
   pub same : SameZone z (page_zone kind page_places page)
-  pub few : length z.places ≤ most_tokens
-  pub normal : InNormalForm kind z
-  pub small : SizedZone kind largest_listed z
+  pub formed : PageFormed kind z
 
 -- with these tokens the draft has the item's zone, or the item is void
 abbrev pub ItemAnswer : {B : Type 0} → Kind B → Net B → (target : Zone B) → List (Zone B) → Item → (draft : List B) → Option (ArrayVec ℕ) → Type 0

@@ -2,7 +2,7 @@
 use Rattle.std.specs.Prelude.{◌≡◌, ℕ, ◌+◌, ◌-◌, ◌*◌, ◌^◌, ◌/◌, ◌%◌, ◌<◌, ◌≤◌, Bool, true, false, cond, ◌&&◌, List, [], ◌∷◌, ◌++◌, map, length, take, drop, replicate, Ok, Err, None, Some, Option, ◌==◌, nat_le, min}
 use Rattle.std.specs.List.{range_with_len}
 use Rattle.bounds.specs.Kinds.{Kind}
-use Rattle.zone_cells.specs.Drafts.{largest_listed, most_tokens}
+pub use Rattle.zone_cells.specs.Drafts.{PageFormed}
 use Rattle.zone_cells.specs.Sizes.{draft_cells, page_cells, page_places}
 use Rattle.docket_dues.specs.Answered.{Answered, places_of_all}
 use Rattle.docket_dues.specs.DueLaws.{IsDue}
@@ -52,12 +52,6 @@ page_places_of z = z.places ++ replicate (page_places - length z.places) 0
 -- the page with this number has these items, and every other page what it had
 abbrev pub with_page : {X : Type 0} → (size p : ℕ) → (items book : List X) → List X
 with_page size p items book = take (size * p) book ++ (items ++ drop (size * p + size) book)
-
--- in normal form, of at most 8 tokens, with small bounds: so open and post leave a page, and so the predecessors want it
-pub record PageFormed {B : Type 0} (kind : Kind B) (z : Zone B) : Type 0 where
-  pub few : length z.places ≤ most_tokens
-  pub normal : InNormalForm kind z
-  pub small : SizedZone kind largest_listed z
 
 -- page p holds the normal form of z
 pub record PageWritten {B : Type 0} (kind : Kind B) (p : ℕ) (z : Zone B) (before after : World B) : Type 0 where

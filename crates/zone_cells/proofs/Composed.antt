@@ -29,14 +29,14 @@ module _ {B : Type 0} (kind : Kind B) (places : List ℕ) (cells : List B) (work
   n = suc (length places)
 
   pub work_good : Good kind (suc (length places)) largest_listed (in_draft kind cells)
-  work_good = normal_good kind n largest_listed (in_draft kind cells) (omega (arith, work.few)) (omega arith) (omega arith) work.normal.still work.normal.bounds work.small
+  work_good = normal_good kind n largest_listed (in_draft kind cells) (omega (arith, work.formed.few)) (omega arith) (omega arith) work.formed.normal.still work.formed.normal.bounds work.formed.small
 
   -- ---- a delay
   abbrev after : List B
   after = delayed_cells kind n cells
 
   few : n ≤ 13
-  few = omega (arith, work.few)
+  few = omega (arith, work.formed.few)
 
   least_is : (i : ℕ) → 1 ≤ i → i < n → in_draft kind after 0 i ≡ column_least kind n i cells
   least_is i some l = delayed_least kind n cells work.full few i some l
@@ -45,7 +45,7 @@ module _ {B : Type 0} (kind : Kind B) (places : List ℕ) (cells : List B) (work
   delayed_to =
       record {
         kept = λ j i some lj li. delayed_row kind n cells few j i some (omega (arith, li, few));
-        origin = delayed_first kind n cells few 0 ∙ work.normal.still 0 (omega arith);
+        origin = delayed_first kind n cells few 0 ∙ work.formed.normal.still 0 (omega arith);
         below_zero = λ i some l. ap (λ b. kind.at_most b kind.zero) (least_is i some l) ∙ least_zero kind n i cells;
         below = λ i j some l first inside. ap (λ b. kind.at_most b (in_draft kind cells j i)) (least_is i some l) ∙ least_below kind n i cells j first inside;
         least = λ i some l.
@@ -87,7 +87,7 @@ module _ {B : Type 0} (kind : Kind B) (places : List ℕ) (cells : List B) (work
 
     narrow_small : Sized kind n largest_entry (in_draft kind narrow_cells)
     narrow_small j i lj li =
-        let sized = narrow_sized kind n largest_listed net_places t.outputs ms (in_draft kind cells) limits.outputs (omega arith) work.small in
+        let sized = narrow_sized kind n largest_listed net_places t.outputs ms (in_draft kind cells) limits.outputs (omega arith) work.formed.small in
         omega (arith, same_sized kind n largest_listed (narrowed_by kind t.outputs ms (in_draft kind cells)) (in_draft kind narrow_cells) narrowed_back sized j i lj li)
 
     pub firing_ready : Ready kind (suc (length places)) (0 ∷ sifted true ms 1 (length places)) (matched_cells kind t.outputs ms cells)
@@ -95,9 +95,9 @@ module _ {B : Type 0} (kind : Kind B) (places : List ℕ) (cells : List B) (work
         record {
           full = length_matched kind t.outputs ms cells ∙ work.full;
           few = few;
-          rounds = omega (arith, sifted_few true ms 1 (length places), work.few);
+          rounds = omega (arith, sifted_few true ms 1 (length places), work.formed.few);
           inside = sifted_inside ms (length places);
-          still = same_still kind n (narrowed_by kind t.outputs ms (in_draft kind cells)) (in_draft kind narrow_cells) narrowed_back (narrow_still kind n t.outputs ms (in_draft kind cells) work.normal.still);
+          still = same_still kind n (narrowed_by kind t.outputs ms (in_draft kind cells)) (in_draft kind narrow_cells) narrowed_back (narrow_still kind n t.outputs ms (in_draft kind cells) work.formed.normal.still);
           sized = narrow_small;
           settled = settled_or_among;
         }
@@ -125,11 +125,11 @@ module _ {B : Type 0} (kind : Kind B) (places : List ℕ) (cells : List B) (work
       kept_at j l = ap (λ xs. get_or xs j 0) listed ∙ ap (λ xs. get_or (0 ∷ xs) j 0) (sifted-others ms 1 (length places))
 
       rows_few : rows ≤ 9
-      rows_few = omega (arith, kept_few ms (length places), work.few)
+      rows_few = omega (arith, kept_few ms (length places), work.formed.few)
 
       rising : Rising kept rows
       rising =
-          let r = kept_rises ms (length places) (omega (arith, work.few)) in
+          let r = kept_rises ms (length places) (omega (arith, work.formed.few)) in
           record {
             from = λ j l. omega (arith, r.from j l, kept_at j l);
             inside = λ j l. omega (arith, r.inside j l, kept_at j l);
@@ -163,13 +163,13 @@ module _ {B : Type 0} (kind : Kind B) (places : List ℕ) (cells : List B) (work
 
       added : Added kind rows t.inputs (length t.inputs) (picked (0 ∷ stay) (in_draft kind closed)) (in_draft kind (stage (length t.inputs)))
       added =
-          grown_added kind rows (2 ^ 26) net_places t.inputs (picked (0 ∷ stay) (in_draft kind closed)) (omega arith) (omega arith) (omega arith) limits.inputs (firing_picked kind t ms (draft_zone kind places cells) net_places work.few work_good limits matched (in_draft kind closed) narrows possible) (λ k. in_draft kind (stage k)) first_stage grown
+          grown_added kind rows (2 ^ 26) net_places t.inputs (picked (0 ∷ stay) (in_draft kind closed)) (omega arith) (omega arith) (omega arith) limits.inputs (firing_picked kind t ms (draft_zone kind places cells) net_places work.formed.few work_good limits matched (in_draft kind closed) narrows possible) (λ k. in_draft kind (stage k)) first_stage grown
 
       -- what stays, and the input arcs' tokens behind it
       pub firing_before : FiringPredecessor kind t ms (draft_zone kind places cells) (fired_back t ms (draft_zone kind places cells) (in_draft kind (input_cells kind t.inputs count (picked_cells kind kept count closed))))
       firing_before =
-          subst (λ m. FiringPredecessor kind t ms (draft_zone kind places cells) (fired_back t ms (draft_zone kind places cells) (in_draft kind (input_cells kind t.inputs m (picked_cells kind kept m closed))))) (sym count_is) (firing_predecessor kind t ms (draft_zone kind places cells) net_places work.few work_good limits matched (in_draft kind closed) narrows possible (in_draft kind (stage (length t.inputs))) added)
+          subst (λ m. FiringPredecessor kind t ms (draft_zone kind places cells) (fired_back t ms (draft_zone kind places cells) (in_draft kind (input_cells kind t.inputs m (picked_cells kind kept m closed))))) (sym count_is) (firing_predecessor kind t ms (draft_zone kind places cells) net_places work.formed.few work_good limits matched (in_draft kind closed) narrows possible (in_draft kind (stage (length t.inputs))) added)
 
       pub firing_small : SizedZone kind largest_predecessor (fired_back t ms (draft_zone kind places cells) (in_draft kind (input_cells kind t.inputs count (picked_cells kind kept count closed))))
       firing_small =
-          subst (λ m. SizedZone kind largest_predecessor (fired_back t ms (draft_zone kind places cells) (in_draft kind (input_cells kind t.inputs m (picked_cells kind kept m closed))))) (sym count_is) (firing_good kind t ms (draft_zone kind places cells) net_places work.few work_good limits matched (in_draft kind closed) narrows possible (in_draft kind (stage (length t.inputs))) added).sized
+          subst (λ m. SizedZone kind largest_predecessor (fired_back t ms (draft_zone kind places cells) (in_draft kind (input_cells kind t.inputs m (picked_cells kind kept m closed))))) (sym count_is) (firing_good kind t ms (draft_zone kind places cells) net_places work.formed.few work_good limits matched (in_draft kind closed) narrows possible (in_draft kind (stage (length t.inputs))) added).sized

@@ -88,9 +88,11 @@ module _ {B : Type 0} (kind : Kind B) where
         let most : n * s ≤ 9 * 2 ^ 18 = mul-le-mul nine small in
         record {
           full = full;
-          few = few;
-          normal = record { still = again.closed.still; bounds = again.normal };
-          small = λ j i p q. let here = largest j i p q in omega (arith, here, most);
+          formed = record {
+            few = few;
+            normal = record { still = again.closed.still; bounds = again.normal };
+            small = λ j i p q. let here = largest j i p q in omega (arith, here, most);
+          };
         }
 
     by_counting : (before after : List B) (answer : Bool) → length before ≡ 169 → Settles kind (points z) (range_with_len 0 (points z)) (written (counted kind z.bound) (points z) before) after answer → DraftFormedOr kind z after answer

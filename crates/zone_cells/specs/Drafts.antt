@@ -23,9 +23,13 @@ largest_listed = 2 ^ 22
 abbrev pub largest_predecessor : ℕ
 largest_predecessor = 2 ^ 27
 
--- a zone in normal form, as a page holds it, in whole cells
+-- a zone as a page holds it, and so as the predecessors want it
+pub record PageFormed {B : Type 0} (kind : Kind B) (z : Zone B) : Type 0 where
+  pub few : length z.places ≤ most_tokens
+  pub normal : InNormalForm kind z
+  pub small : SizedZone kind largest_listed z
+
+-- such a zone in whole cells
 pub record Workable {B : Type 0} (kind : Kind B) (places : List ℕ) (cells : List B) : Type 0 where
   pub full : length cells ≡ draft_cells
-  pub few : length places ≤ most_tokens
-  pub normal : InNormalForm kind (draft_zone kind places cells)
-  pub small : SizedZone kind largest_listed (draft_zone kind places cells)
+  pub formed : PageFormed kind (draft_zone kind places cells)

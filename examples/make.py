@@ -1,7 +1,7 @@
 #!/usr/bin/env python3
 """Writes records, and the files of this folder from their descriptions. It knows the format alone,
-neither the rules nor the lines. A script of your own begins with `from make import *`: README.md here
-has one. The files of real nets are not written here.
+neither the rules nor the lines. A script of your own begins with `from make import *`: README.md
+here has one. The files of real nets are not written here.
 
 usage: python3 examples/make.py [FOLDER]    this folder, if none is named
 """
@@ -23,7 +23,7 @@ def packed(*fields):
 
 
 def slot(place=0, low=0, high=0, low_mark=0, high_mark=0):
-    """An arc to or from a place, for ages from low to high; None for no upper limit. A marked end is strict."""
+    """An arc of a place, for ages from low to high, None for no limit. A marked end is strict."""
     no_limit, mark, end = (1, 0, 0) if high is None else (0, high_mark, high)
     return packed((place, 6), (low_mark, 1), (low, 15), (no_limit, 1), (mark, 1), (end, 15), (0, 1))
 
@@ -34,7 +34,7 @@ def header(kind=1, places=2, transitions=1, spare=0):
 
 
 def transition(taken=(), given=(), inputs=None, outputs=None, spare=0):
-    """What it takes and what it gives: up to four slots each. Their numbers may be given otherwise."""
+    """What it takes and what it gives, up to four slots each. Counts may be given otherwise."""
     counts = len(taken) if inputs is None else inputs, len(given) if outputs is None else outputs
     slots = [b"".join(side).ljust(20, b"\0") for side in (taken, given)]
     return packed((counts[0], 3), (counts[1], 3), (spare, 2)) + slots[0] + slots[1]
@@ -62,11 +62,13 @@ def bound(number, mark=0):
 
 
 def zone(*places, tokens=None, spare=0, **bounds):
-    """A zone of tokens in these places. A bound is named by its row and column, as d10; the others have no limit."""
+    """A zone of tokens in these places. A bound is named by its row and column, as d10; others have
+    no limit."""
     count = len(places) if tokens is None else tokens
     entries = [bounds.get(f"d{j}{i}", NO_LIMIT) for j in range(9) for i in range(9) if j != i]
     stops = [*places, *[0] * (8 - len(places))]
-    return packed((spare, 4), (count, 4), *((p, 6) for p in stops), (0, 40), *((b, 20) for b in entries))
+    head = [(spare, 4), (count, 4), *((p, 6) for p in stops), (0, 40)]
+    return packed(*head, *((b, 20) for b in entries))
 
 
 def voucher(zone=0, *partners, void=0, spare=0):
@@ -86,7 +88,15 @@ TAKEN, GIVEN = (slot(0, 1, 2),), (slot(1),)
 MOVE = transition(TAKEN, GIVEN)
 
 
-def file(net=header(), moves=(MOVE,), head=docket(), tokens=(token(),), target=TARGET, zones=ZONES, vouchers=VOUCHERS):
+def file(
+    net=header(),
+    moves=(MOVE,),
+    head=docket(),
+    tokens=(token(),),
+    target=TARGET,
+    zones=ZONES,
+    vouchers=VOUCHERS,
+):
     return b"".join([net, *moves, head, *tokens, target, *zones, *vouchers])
 
 
@@ -112,7 +122,9 @@ ANSWERS = (BY[1], BY[2], BY[1], VOID, BY[2], BY[2], BY[3], BY[3], BY[3])
 
 
 def aged(initial, zones, vouchers):
-    return file(head=docket(initial, zones), tokens=initial * (token(),), target=OLD, zones=AGED[:zones], vouchers=vouchers)
+    tokens = initial * (token(),)
+    head = docket(initial, zones)
+    return file(head=head, tokens=tokens, target=OLD, zones=AGED[:zones], vouchers=vouchers)
 
 
 # ---- the files
@@ -124,7 +136,11 @@ FILES = {
     "two_carriers": WHOLE,
     "kind_unstated": file(net=header(kind=0)),
     "kind_marked": file(net=header(kind=2)),
-    "no_transition": file(net=header(transitions=0), moves=(), vouchers=(VOUCHERS[0], voucher(1, 1, 2), voucher(2, 1, 2), voucher(3, 1, 2))),
+    "no_transition": file(
+        net=header(transitions=0),
+        moves=(),
+        vouchers=tuple(voucher(z, 1, 2) for z in (1, 1, 2, 3)),
+    ),
     "crossed_partners": first_voucher(voucher(1, 2, 1)),
     "void_item": aged(0, 3, ANSWERS),
     # due
@@ -182,10 +198,16 @@ FILES = {
     "header_spare_and_kind_3": file(net=header(kind=3, spare=1)),
     "output_place_2_and_range_3_to_2": net_with(taken=(slot(0, 3, 2),), given=(slot(2),)),
     "lower_mark_and_range_3_to_2": net_with(taken=(slot(0, 3, 2, low_mark=1),)),
-    "range_3_to_2_and_docket_spare": file(moves=(transition((slot(0, 3, 2),), GIVEN),), head=docket(spare=1)),
+    "range_3_to_2_and_docket_spare": file(
+        moves=(transition((slot(0, 3, 2),), GIVEN),), head=docket(spare=1)
+    ),
     "token_spare_and_place_2": file(tokens=(token(2, spare=1),)),
-    "nine_initial_tokens_one_in_place_2": file(head=docket(initial=9), tokens=(*8 * (token(),), token(2))),
-    "nine_initial_tokens_and_target_short": (file(head=docket(initial=9), tokens=9 * (token(),)))[: SHORT_TARGET + 24],
+    "nine_initial_tokens_one_in_place_2": file(
+        head=docket(initial=9), tokens=(*8 * (token(),), token(2))
+    ),
+    "nine_initial_tokens_and_target_short": file(head=docket(initial=9), tokens=9 * (token(),))[
+        : SHORT_TARGET + 24
+    ],
     "target_nine_tokens_and_short": file(target=zone(1, 1, tokens=9))[:SHORT_TARGET],
     "target_nine_tokens_and_initial_place_2": file(target=zone(1, 1, tokens=9), tokens=(token(2),)),
     "target_nine_tokens_and_spare": file(target=zone(1, 1, tokens=9, spare=1)),
@@ -197,7 +219,10 @@ FILES = {
     "void_item_zone_3": aged(1, 2, (*ANSWERS[:3], BY[3])),
     "voucher_zone_4_partner_twice": first_voucher(voucher(4, 1, 1)),
     "other_places_partner_twice": first_voucher(voucher(2, 1, 1)),
-    "other_places_bound_exceeded": file(zones=(ZONES[0], zone(1, 0, d10=bound(5)), ZONES[2]), vouchers=(voucher(2, 1, 2), *VOUCHERS[1:])),
+    "other_places_bound_exceeded": file(
+        zones=(ZONES[0], zone(1, 0, d10=bound(5)), ZONES[2]),
+        vouchers=(voucher(2, 1, 2), *VOUCHERS[1:]),
+    ),
     "eleventh_voucher_spare": file(vouchers=(*VOUCHERS, voucher(3, 1, 2, spare=1))),
     "eleventh_voucher_short": file(vouchers=(*VOUCHERS, VOUCHERS[-1][:5])),
 }

@@ -1,12 +1,12 @@
--- Tokens by number: the numbers of a list, those among others, and those left. Assumes nothing.
-use Rattle.std.proofs.Common.{◌≡◌, ℕ, zero, suc, ◌+◌, ◌<◌, ◌≤◌, true, false, cond, ◌||◌, eqb, ◌⊎◌, List, [], ◌∷◌, ◌++◌, map, length, get_or, pos, sym, refl, ap, ◌∙◌, subst, inl, inr, ⊎_elim, arith}
+-- Tokens by number: the numbers of a list, those among others, and those left.
+use Rattle.std.proofs.Common.{◌≡◌, ℕ, zero, suc, ◌+◌, ◌<◌, ◌≤◌, true, false, not, cond, ◌&&◌, ◌||◌, eqb, leb, ◌==◌, ◌⊎◌, List, [], ◌∷◌, ◌++◌, map, length, get_or, pos, sym, refl, ap, ◌∙◌, subst, inl, inr, ⊎_elim, arith}
 use Rattle.std.proofs.lemmas.List.{get_or-map, map-append}
-use Rattle.std.proofs.lemmas.Bool.{cases_eq, eqb-true, eqb-false, eq-eqb, ne_eqb, cond_both, or_cases, or_parts, or_from, or_left, or_right, false≢true, both_ways}
+use Rattle.std.proofs.lemmas.Bool.{cases_eq, eqb-true, eqb-false, eq-eqb, ne_eqb, cond_both, or_cases, or_parts, or_from, or_left, or_right, false≢true, both_ways, and_parts, leb-true, not-true}
 use Rattle.nets.specs.Markings.{Token, Permuted}
 use Rattle.nets.specs.Markings.Permuted.{keep, join}
-use Rattle.nets.specs.Nets.{Every, numbered}
+use Rattle.nets.specs.Nets.{Arc, Every, numbered}
 use Rattle.nets.proofs.Bags.{permuted_same, permuted_equal, permuted_map}
-use Rattle.zones.specs.Predecessors.{among, others}
+use Rattle.zones.specs.Predecessors.{among, matches, others, stands}
 use Rattle.zones.specs.Vouching.{Distinct, Partner}
 use Rattle.zones.specs.Zones.{age_of, no_token}
 use Rattle.zones.proofs.Bags.{Taken, taken_first}
@@ -252,3 +252,57 @@ without_every P gone (x ∷ xs) every =
 pub zero_absent : (n : ℕ) (ps : List ℕ) → Every (Partner n) ps → among 0 ps ≡ false
 zero_absent n [] every = refl
 zero_absent n (p ∷ ps) every = let some = every.0.some in or_from (eqb 0 p) (among 0 ps) (ne_eqb 0 p (λ e. omega arith)) (zero_absent n ps every.1)
+
+-- ---- digits: 0, or a number
+abbrev pub named : List ℕ → List ℕ
+named [] = []
+named (zero ∷ ds) = named ds
+named (suc d ∷ ds) = suc d ∷ named ds
+
+-- the numbers are, in some order, those that digits name and those that they do not
+pub left_parted : (ds left : List ℕ) → Distinct left → among 0 left ≡ false → Distinct (named ds) → Every (λ d. among d left ≡ true) (named ds) → Permuted left (named ds ++ without ds left)
+left_parted [] left dist no_zero own every = permuted_equal (sym (without_none left))
+left_parted (zero ∷ ds) left dist no_zero own every =
+    join (left_parted ds left dist no_zero own every) (permuted_equal (ap (λ l. named ds ++ l) (sym (without_absent 0 ds left no_zero))))
+left_parted (suc d ∷ ds) left dist no_zero own every =
+    let r = removed (suc d) left every.0 in
+    let rest = left_parted ds r.left (taken_distinct (suc d) r.taken dist) (taken_absent (suc d) 0 r.taken no_zero) own.1 (every_among (suc d) (named ds) left r.left own.0 r.keeps every.1) in
+    join (taken_first (suc d) r.taken) (keep (suc d) (join rest (permuted_equal (ap (λ l. named ds ++ l) (sym (without_taken (suc d) ds r.taken dist))))))
+
+pub numbers_parted : (n : ℕ) (ds : List ℕ) → Distinct (named ds) → Every (Partner n) (named ds) → Permuted (numbers 1 n) (named ds ++ others ds 1 n)
+numbers_parted n ds own every =
+    join (left_parted ds (numbers 1 n) (distinct_numbers 1 n) (zero_absent n (numbers 1 n) (every_numbers 1 n n (omega arith) (omega arith))) own (partners_among n (named ds) every)) (permuted_equal (ap (λ l. named ds ++ l) (sym (others-without ds 1 n))))
+
+named_absent : (d : ℕ) (ds : List ℕ) → among d ds ≡ false → among d (named ds) ≡ false
+named_absent d [] absent = refl
+named_absent d (zero ∷ ds) absent = named_absent d ds (or_parts (eqb d 0) (among d ds) absent).1
+named_absent d (suc e ∷ ds) absent =
+    let parts = or_parts (eqb d (suc e)) (among d ds) absent in
+    or_from (eqb d (suc e)) (among d (named ds)) parts.0 (named_absent d ds parts.1)
+
+-- a matching names no token twice, and tokens of the zone alone
+matched_token : (places : List ℕ) (d : ℕ) (place : ℕ) (ds : List ℕ) → ((suc d == 0) || (stands places (suc d) place && not (among (suc d) ds))) ≡ true → Partner (length places) (suc d) × (among (suc d) ds ≡ false)
+matched_token places d place ds h =
+    ⊎_elim
+    (λ none. let e = eqb-true (suc d) 0 none in absurd (omega (arith, e)))
+    (λ is.
+    let both = and_parts (stands places (suc d) place) (not (among (suc d) ds)) is in
+    let inside = and_parts (leb 1 (suc d)) (leb (suc d) (length places)) (and_parts _ (eqb (numbered places (suc d) 0) place) both.0).0 in
+    (record { some = omega arith; few = leb-true (suc d) (length places) inside.1 }, not-true _ both.1))
+    (or_cases (eqb (suc d) 0) _ h)
+
+pub matches_named : {B : Type 0} (places : List ℕ) (arcs : List (Arc B)) (ds : List ℕ) → matches places arcs ds ≡ true → Distinct (named ds) × Every (Partner (length places)) (named ds)
+matches_named places [] [] h = (tt, tt)
+matches_named places [] (d ∷ ds) h = absurd (false≢true h)
+matches_named places (a ∷ arcs) [] h = absurd (false≢true h)
+matches_named places (a ∷ arcs) (zero ∷ ds) h =
+    matches_named places arcs ds (and_parts ((0 == 0) || (stands places 0 a.place && not (among 0 ds))) (matches places arcs ds) h).1
+matches_named places (a ∷ arcs) (suc d ∷ ds) h =
+    let both = and_parts _ (matches places arcs ds) h in
+    let first = matched_token places d a.place ds both.0 in
+    let later = matches_named places arcs ds both.1 in
+    ((named_absent (suc d) ds first.1, later.0), (first.0, later.1))
+
+-- so the tokens of a zone are, in some order, those that a matching names and those that stay
+pub matching_parts : {B : Type 0} (places : List ℕ) (arcs : List (Arc B)) (ds : List ℕ) → matches places arcs ds ≡ true → Permuted (numbers 1 (length places)) (named ds ++ others ds 1 (length places))
+matching_parts places arcs ds h = let of = matches_named places arcs ds h in numbers_parted (length places) ds of.0 of.1

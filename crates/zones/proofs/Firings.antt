@@ -1,4 +1,4 @@
--- What a firing's predecessors mean for markings. Assumes nothing.
+-- What a firing's predecessors mean for markings.
 use Rattle.std.proofs.Common.{◌≡◌, ℕ, zero, suc, ◌+◌, ◌<◌, ◌≤◌, true, List, [], ◌∷◌, ◌++◌, map, length, get_or, ℤ, pos, ◌-ℤ◌, sym, refl, ap, ◌∙◌, subst, arith}
 use Rattle.std.proofs.lemmas.List.{append_assoc, length-map, length-append, get_or_append_left, get_or-append-add, map-append}
 use Rattle.bounds.specs.Kinds.{Kind}
@@ -16,7 +16,7 @@ use Rattle.zones.specs.Vouching.{Partner}
 use Rattle.zones.specs.Zones.{Zone, Satisfies, points, age_of, no_token}
 use Rattle.zones.proofs.Between.{from_counted, from_allowed, to_counted}
 use Rattle.zones.proofs.Chosen.{token_of, age_chosen, places_chosen, numbers, without, others-without, tokens_all, distinct_numbers, every_numbers, every_getD, without_every}
-use Rattle.zones.proofs.Matchings.{Found, found}
+use Rattle.zones.proofs.Matchings.{Found, added_matched, found}
 use Rattle.zones.proofs.Narrowings.{Aged, narrowed_by_allows, with_tokens_allows}
 use Rattle.zones.proofs.Forms.{form_allows, chosen_count}
 
@@ -80,7 +80,7 @@ module _ {B : Type 0} (kind : Kind B) (k : ℕ) (grid : 1 ≤ k) where
         let both = length-append (places_at stay z) (map (λ a. a.place) arcs) in
         omega arith
 
-  came_found : (t : Transition B) (z : Zone B) (m n : Marking) (f : Fired kind k t m n) (s : Satisfies kind k z n) → Found kind k s.chosen t.outputs (numbers 1 (length s.chosen)) f.rest
+  came_found : (t : Transition B) (z : Zone B) (m n : Marking) (f : Fired kind k t m n) (s : Satisfies kind k z n) → Found s.chosen t.outputs f.added (numbers 1 (length s.chosen)) f.rest
   came_found t z m n f s =
       let both = join (permuted_back s.pairing) f.after in
       let count = length-map s.chosen (λ u. u.place) in
@@ -99,14 +99,14 @@ module _ {B : Type 0} (kind : Kind B) (k : ℕ) (grid : 1 ≤ k) where
       ts : List Token
       ts = s.chosen
 
-      g : Found kind k s.chosen t.outputs (numbers 1 (length s.chosen)) f.rest
+      g : Found s.chosen t.outputs f.added (numbers 1 (length s.chosen)) f.rest
       g = came_found t z m n f s
 
       stay : List ℕ
       stay = staying g.digits z
 
       narrowed : AgesAllowed kind k (points z) (counted kind (narrowed_by kind t.outputs g.digits z.bound)) (age_of s.chosen)
-      narrowed = to_counted kind k grid (points z) (narrowed_by kind t.outputs g.digits z.bound) s.chosen (narrowed_by_allows kind k grid (age_of s.chosen) refl (points z) t.outputs g.digits z.bound g.matched (from_counted kind k grid (points z) z.bound (age_of s.chosen) s.allowed))
+      narrowed = to_counted kind k grid (points z) (narrowed_by kind t.outputs g.digits z.bound) s.chosen (narrowed_by_allows kind k grid (age_of s.chosen) refl (points z) t.outputs g.digits z.bound (added_matched kind k ts t.outputs f.added g.digits f.puts g.placed) (from_counted kind k grid (points z) z.bound (age_of s.chosen) s.allowed))
 
       kept_is : without g.digits (numbers 1 (length s.chosen)) ≡ stay
       kept_is = ap (λ c. without g.digits (numbers 1 c)) (chosen_count kind k grid z n s) ∙ sym (others-without g.digits 1 (length z.places))

@@ -18,7 +18,7 @@ use Rattle.docket_items.specs.Made.{ItemAnswer}
 use Rattle.nets.specs.Nets.{Net}
 use Rattle.docket_refusals.specs.declared.refusal.CallRefusal.TheVariants.{NotVoid, VoidItem as IsVoid, NoSuchZone, Objected}
 use Rattle.docket_rules.specs.Calls.{is_early}
-use Rattle.docket_rules.specs.Tables.{Against, Answer, Answers, Asks, IsVoidItem, Row, item_rows, pairing_of, row}
+use Rattle.docket_rules.specs.Tables.{Against, Answer, Answers, Asks, IsVoidItem, Rule, item_rules, pairing_of, rule}
 use Rattle.docket_rules.specs.Worlds.{World, in_list, listed_count, listed_pages, page_of}
 use Rattle.docket_rules.proofs.KeptAsked.{one_asked}
 use Rattle.zones.specs.Zones.{Zone}
@@ -60,7 +60,7 @@ not_void kind net target listed (suc z) (suc t) n asked asks void = asks.possibl
 
 module _ {B : Type 0} (kind : Kind B) (net : Net B) (w : World B) (d : Item) (v : Voucher) where
   -- ---- a void item
-  void_answers : IsVoidItem kind net w.state (page_of kind w) d → (void : Bool) → v.void ≡ void → Answers (item_rows kind net w.state (page_of kind w) d v) (cond void (Ok tt) (Err IsVoid))
+  void_answers : IsVoidItem kind net w.state (page_of kind w) d → (void : Bool) → v.void ≡ void → Answers (item_rules kind net w.state (page_of kind w) d v) (cond void (Ok tt) (Err IsVoid))
   void_answers is_void true is =
       inr (λ h. h.1 is_void, inr (λ h. both_ways v.void h.0 is, inr (λ h. both_ways v.void h.0 is, inr (λ h. both_ways v.void h.0 is, inr (λ h. both_ways v.void h.0 is, inr (λ h. both_ways v.void h.0 is, refl))))))
   void_answers is_void false is = inr (λ h. both_ways v.void is h.0, inl ((is, is_void), refl))
@@ -84,8 +84,8 @@ module _ {B : Type 0} (kind : Kind B) (net : Net B) (w : World B) (d : Item) (v 
     other : (r : Tried) (o : Objection) → stands ≡ r → (number_of r ≡ objection_number o → ⊥) → (v.void ≡ false) × Against kind net w.state (page_of kind w) d v o → ⊥
     other r o is apart h = apart (ap number_of (sym is ∙ against_it o h.1))
 
-    abbrev objection_row : Objection → Row
-    objection_row o = row (objection_number o) ((v.void ≡ false) × Against kind net w.state (page_of kind w) d v o)
+    abbrev objection_row : Objection → Rule
+    objection_row o = rule (objection_number o) ((v.void ≡ false) × Against kind net w.state (page_of kind w) d v o)
 
     objection_answers : v.void ≡ false → (r : Tried) → stands ≡ r → Answers (objection_row Partner ∷ (objection_row Place ∷ (objection_row Bound ∷ []))) (objected r)
     objection_answers named (Err Partner) is = inl ((named, record { asked = asked; asks = asks; stands = is }), refl)
@@ -99,7 +99,7 @@ module _ {B : Type 0} (kind : Kind B) (net : Net B) (w : World B) (d : Item) (v 
     abbrev answer_of : Bool → Bool → Answer
     answer_of void listed = cond void (Err NotVoid) (cond listed (objected stands) (Err NoSuchZone))
 
-    asked_answers : (void listed : Bool) → v.void ≡ void → in_list w.state v.zone ≡ listed → Answers (item_rows kind net w.state (page_of kind w) d v) (answer_of void listed)
+    asked_answers : (void listed : Bool) → v.void ≡ void → in_list w.state v.zone ≡ listed → Answers (item_rules kind net w.state (page_of kind w) d v) (answer_of void listed)
     asked_answers true listed is among = inl ((is, is_not_void), refl)
     asked_answers false false is among = inr (λ h. both_ways v.void is h.0, inr (λ h. is_not_void h.1, inl ((is, among), refl)))
     asked_answers false true is among =
@@ -119,7 +119,7 @@ module _ {B : Type 0} (kind : Kind B) (net : Net B) (w : World B) (d : Item) (v 
 
   -- ---- either
   module _ (draft : List B) where
-    pub judged_answers : (asked : Option (ArrayVec ℕ)) → ItemAnswer kind net (page_of kind w 0) (listed_pages kind w) d draft asked → Answers (item_rows kind net w.state (page_of kind w) d v) (judged kind w v draft asked)
+    pub judged_answers : (asked : Option (ArrayVec ℕ)) → ItemAnswer kind net (page_of kind w 0) (listed_pages kind w) d draft asked → Answers (item_rules kind net w.state (page_of kind w) d v) (judged kind w v draft asked)
     judged_answers None made = void_answers made v.void refl
     judged_answers (Some tokens) made = asked_answers (draft_zone kind tokens.items draft) made v.void (in_list w.state v.zone) refl refl
 

@@ -14,7 +14,7 @@ use Rattle.nets.specs.Markings.{Marking}
 use Rattle.zone_reading.specs.Readings.{Read}
 use Rattle.docket_refusals.specs.declared.refusal.CallRefusal.TheVariants.{Entry}
 use Rattle.docket_rules.specs.Calls.{PageFormed, PageWritten, cells_of, page_places_of, with_page}
-use Rattle.docket_rules.specs.Tables.{Answer, Answers, Row, number_of, record_rows, row}
+use Rattle.docket_rules.specs.Tables.{Answer, Answers, Rule, number_of, record_rules, rule}
 use Rattle.docket_rules.specs.Worlds.{World}
 use Rattle.zones.proofs.ZoneLaws.{zones_keep_laws}
 use Rattle.zones.specs.Zones.{Zone, Inconsistent, NormalOf, Satisfies}
@@ -23,24 +23,24 @@ use Rattle.zones.specs.Zones.{Zone, Inconsistent, NormalOf, Satisfies}
 abbrev tests : (a b c d e : Bool) → Option EntryRefusal
 tests a b c d e = cond a (Some WrongLength) (cond b (Some NotZero) (cond c (Some TooMany) (cond d (Some NoSuchPlace) (cond e (Some MarkUnderPlain) None))))
 
-abbrev tested_rows : (a b c d e : Bool) (last : List Row) → List Row
-tested_rows a b c d e last =
-    row 20 (a ≡ true)
-    ∷ row 21 (b ≡ true)
-    ∷ row 22 (c ≡ true)
-    ∷ row 23 (d ≡ true)
-    ∷ row 24 (e ≡ true)
+abbrev tested_rules : (a b c d e : Bool) (last : List Rule) → List Rule
+tested_rules a b c d e last =
+    rule 20 (a ≡ true)
+    ∷ rule 21 (b ≡ true)
+    ∷ rule 22 (c ≡ true)
+    ∷ rule 23 (d ≡ true)
+    ∷ rule 24 (e ≡ true)
     ∷ last
 
 -- a fault is the answer; with none, the last rows answer
-abbrev Found : (rows last : List Row) → Option EntryRefusal → Type 0
+abbrev Found : (rows last : List Rule) → Option EntryRefusal → Type 0
 Found rows last (Some r) = Answers rows (Err (Entry r))
 Found rows last None = (answer : Answer) → Answers last answer → Answers rows answer
 
 no : false ≡ true → ⊥
 no h = false≢true h
 
-found : (a b c d e : Bool) (last : List Row) → Found (tested_rows a b c d e last) last (tests a b c d e)
+found : (a b c d e : Bool) (last : List Rule) → Found (tested_rules a b c d e last) last (tests a b c d e)
 found true b c d e last = inl (refl, refl)
 found false true c d e last = inr (no, inl (refl, refl))
 found false false true d e last = inr (no, inr (no, inl (refl, refl)))
@@ -48,12 +48,12 @@ found false false false true e last = inr (no, inr (no, inr (no, inl (refl, refl
 found false false false false true last = inr (no, inr (no, inr (no, inr (no, inl (refl, refl)))))
 found false false false false false last = λ answer h. inr (no, inr (no, inr (no, inr (no, inr (no, h)))))
 
-module _ {B : Type 0} (kind : Kind B) (net_places : ℕ) (bytes : List ℕ) (rest : List Row) where
+module _ {B : Type 0} (kind : Kind B) (net_places : ℕ) (bytes : List ℕ) (rest : List Rule) where
   abbrev z : Zone B
   z = zone_of kind bytes
 
-  abbrev pub rows : List Row
-  rows = record_rows kind net_places bytes ++ rest
+  abbrev pub rows : List Rule
+  rows = record_rules kind net_places bytes ++ rest
 
   -- a record that was taken: the rest of the rows answer, and the draft holds its normal form
   pub record RecordTaken (draft : List B) (tokens : List ℕ) : Type 0 where
@@ -65,8 +65,8 @@ module _ {B : Type 0} (kind : Kind B) (net_places : ℕ) (bytes : List ℕ) (res
   Recorded draft (Err r) = Answers rows (Err (Entry r))
   Recorded draft (Ok tokens) = RecordTaken draft tokens.items
 
-  abbrev last : List Row
-  last = row 25 (Inconsistent kind z) ∷ rest
+  abbrev last : List Rule
+  last = rule 25 (Inconsistent kind z) ∷ rest
 
   recorded_as : (before after : List B) (result : Result (ArrayVec ℕ) EntryRefusal) → length before ≡ draft_cells → Read kind net_places bytes before after result → (fault : Option EntryRefusal) → zone_fault kind.marks net_places bytes ≡ fault → Found rows last fault → Recorded after result
   recorded_as before after result full read (Some r) is h = subst (Recorded after) (sym (read.refused r is).answer) h

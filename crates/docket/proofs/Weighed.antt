@@ -17,7 +17,7 @@ use Rattle.docket_items.specs.Made.{PageHolds, ItemAnswer, ZoneMade}
 use Rattle.nets.specs.Nets.{Net}
 use Rattle.docket_refusals.specs.declared.refusal.CallRefusal.{CallRefusal}
 use Rattle.docket_rules.specs.Calls.{Discharges, Left, Sound, is_early}
-use Rattle.docket_rules.specs.Tables.{Answer, Answers, Begins, discharge_rows, discharge_table, due_in, is_proving, item_rows, partners_used, voucher_rows}
+use Rattle.docket_rules.specs.Tables.{Answer, Answers, Begins, discharge_rules, discharge_table, due_in, is_proving, item_rules, partners_used, voucher_rules}
 use Rattle.docket_rules.specs.Worlds.{Lent, State, World, book_whole, listed_pages, cells_at, page_of, places_at, whole, with_scratch}
 use Rattle.docket_rules.specs.declared.stage.Stage.TheVariants.{Proving}
 
@@ -60,7 +60,7 @@ module _ {B : Type 0} (kind : Kind B) (net : Net B) (w : World B) (bytes : List 
                 λ h. both_ways (eqb (length bytes) 6) h said.long,
                 inr (
                   λ h. both_ways _ said.clean h,
-                  subst (λ u. Answers (item_rows kind net w.state (page_of kind w) d u) answer) (sym said.is) (subst (Answers (item_rows kind net w.state (page_of kind w) d v)) (sym judges) (judged_answers kind net w d v after asked (item_made proving full sound))),
+                  subst (λ u. Answers (item_rules kind net w.state (page_of kind w) d u) answer) (sym said.is) (subst (Answers (item_rules kind net w.state (page_of kind w) d v)) (sym judges) (judged_answers kind net w d v after asked (item_made proving full sound))),
                 ),
               );
           answered = λ proving full sound e. judged_answered kind net w d v after asked (item_made proving full sound) (sym judges ∙ e);
@@ -75,7 +75,7 @@ module _ {B : Type 0} (kind : Kind B) (net : Net B) (w : World B) (bytes : List 
     full = eqb-true (length lent) draft_cells (and_parts (book_whole w) _ is_whole).1
 
     module _ (answer : Answer) (by : Weighed kind net w bytes d lent worked answer) where
-      call_begins : Begins (discharge_rows w.state (whole before) bytes) answer
+      call_begins : Begins (discharge_rules w.state (whole before) bytes) answer
       call_begins = inr (λ h. both_ways (is_proving w.state.stage) h (ap is_proving proving), inr (λ h. both_ways (whole before) h is_whole, by.begins))
 
       call_answers : Sound kind net w → Answers (discharge_table kind net w.state (whole before) (page_of kind w) bytes) answer
@@ -84,7 +84,7 @@ module _ {B : Type 0} (kind : Kind B) (net : Net B) (w : World B) (bytes : List 
             λ h. both_ways (is_proving w.state.stage) h (ap is_proving proving),
             inr (
               λ h. both_ways (whole before) h is_whole,
-              subst (λ e. Answers (voucher_rows w.state bytes ++ item_rows kind net w.state (page_of kind w) e (voucher_of bytes)) answer) (sym (ap due_in proving)) (by.answers proving full sound),
+              subst (λ e. Answers (voucher_rules w.state bytes ++ item_rules kind net w.state (page_of kind w) e (voucher_of bytes)) answer) (sym (ap due_in proving)) (by.answers proving full sound),
             ),
           )
 

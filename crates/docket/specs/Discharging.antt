@@ -19,7 +19,7 @@ use Rattle.docket_records.specs.declared.voucher.Voucher.{Voucher}
 use Rattle.nets.specs.Nets.{Net}
 use Rattle.docket_refusals.specs.declared.refusal.CallRefusal.TheVariants.{NotVoid, VoidItem as IsVoid, NoSuchZone, Objected}
 use Rattle.docket_rules.specs.Calls.{Sound, is_early, most_taken, stage_of}
-use Rattle.docket_rules.specs.Tables.{Answer, Answers, Begins, item_rows, pairing_of, partners_used, voucher_rows}
+use Rattle.docket_rules.specs.Tables.{Answer, Answers, Begins, item_rules, pairing_of, partners_used, voucher_rules}
 use Rattle.docket_rules.specs.Worlds.{State, World, in_list, listed_pages, page_of}
 use Rattle.docket_rules.specs.declared.stage.Stage.TheVariants.{Proving}
 use Rattle.zones.specs.Zones.{Zone}
@@ -54,8 +54,8 @@ judged kind w v draft (Some tokens) =
 pub record Weighed {B : Type 0} (kind : Kind B) (net : Net B) (w : World B) (bytes : List ℕ) (d : Item) (before after : List B) (answer : Answer) : Type 0 where
   pub kept : length after ≡ length before
   pub late : is_early answer ≡ false
-  pub begins : Begins (voucher_rows w.state bytes) answer
-  pub answers : w.state.stage ≡ Proving d → length before ≡ draft_cells → Sound kind net w → Answers (voucher_rows w.state bytes ++ item_rows kind net w.state (page_of kind w) d (voucher_of bytes)) answer
+  pub begins : Begins (voucher_rules w.state bytes) answer
+  pub answers : w.state.stage ≡ Proving d → length before ≡ draft_cells → Sound kind net w → Answers (voucher_rules w.state bytes ++ item_rules kind net w.state (page_of kind w) d (voucher_of bytes)) answer
   pub answered : w.state.stage ≡ Proving d → length before ≡ draft_cells → Sound kind net w → answer ≡ Ok tt → Answered kind net (page_of kind w 0) (listed_pages kind w) d
 
 -- the item that follows is due, or the docket is sealed, and one voucher more is taken

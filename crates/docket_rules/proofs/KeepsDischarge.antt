@@ -11,7 +11,7 @@ use Rattle.docket_dues.proofs.Turns.{awaits_next, awaited_below, one_more_answer
 use Rattle.nets.specs.Nets.{Limits, Net}
 use Rattle.docket_rules.specs.Calls.{BookKept, Discharge, Discharged, Step, most_taken, stage_of}
 use Rattle.docket_rules.specs.Logs.{Log, Opening, with_call, proving_stage, stage_said}
-use Rattle.docket_rules.specs.Tables.{Answer, discharge_rows, due_in, is_proving}
+use Rattle.docket_rules.specs.Tables.{Answer, discharge_rules, due_in, is_proving}
 use Rattle.docket_rules.specs.Worlds.{State, World, listed_pages, page_of, whole, with_book, with_scratch}
 use Rattle.docket_rules.specs.declared.stage.Stage.TheVariants.{Proving}
 use Rattle.docket_rules.proofs.Agrees.{Agrees, AgreesAs, AgreesOpened}
@@ -81,6 +81,6 @@ module _ {B : Type 0} (kind : Kind B) (net : Net B) (limits : Limits kind net) w
 
   pub keeps_discharge : (log : Log B) (w u : World B) (voucher : List ℕ) (scratch : List B) (answer : Answer) → Agrees kind net log w → Step kind net w (Discharge voucher scratch answer) u → Agrees kind net (with_call kind log (Discharge voucher scratch answer)) u
   keeps_discharge log w u voucher scratch (Ok t) agrees step =
-      discharge_taken log w u log.opening refl agrees (none_begins (discharge_rows w.state (whole (with_scratch w scratch)) voucher) step.1.begins).0 (step.1.taken refl) step.2
+      discharge_taken log w u log.opening refl agrees (none_begins (discharge_rules w.state (whole (with_scratch w scratch)) voucher) step.1.begins).0 (step.1.taken refl) step.2
   keeps_discharge log w u voucher scratch (Err r) agrees step =
       unmoved kind net log w u (world_is u (step.1.refused r refl) step.2.cells step.2.places) agrees

@@ -1,4 +1,4 @@
--- A voucher that is allowed for the item that is due is taken: no row of its table holds.
+-- A voucher that is allowed for the item that is due is taken: no rule of its table holds.
 use Rattle.std.proofs.Common.{◌≡◌, ℕ, Bool, true, false, eqb, ◌⊎◌, List, length, is_err, Ok, sym, refl, ap, ◌∙◌, subst, ⊎_elim}
 use Rattle.std.proofs.lemmas.Bool.{and_from, eq-eqb, true≢false}
 use Rattle.zone_cells.specs.Sizes.{draft_cells}
@@ -14,12 +14,12 @@ use Rattle.nets.specs.Nets.{Net}
 use Rattle.zones.specs.Vouching.{Vouches}
 use Rattle.zones.specs.Zones.{Zone}
 use Rattle.docket_rules.specs.Promise.{VoucherAllowed, VoucherFits}
-use Rattle.docket_rules.specs.Tables.{Against, Answer, Answers, Asks, discharge_table, due_in, is_proving, item_rows, pairing_of}
+use Rattle.docket_rules.specs.Tables.{Against, Answer, Answers, Asks, discharge_table, due_in, is_proving, item_rules, pairing_of}
 use Rattle.docket_rules.specs.Worlds.{State, World, book_cells, book_places, book_whole, listed_zones, whole, with_scratch}
 use Rattle.docket_rules.specs.declared.stage.Stage.TheVariants.{Proving}
 use Rattle.docket_rules.proofs.KeptAsked.{one_asked}
 
--- the first row does not hold
+-- the first rule does not hold
 past : {P E Later : Type 0} → (P → ⊥) → (P × E) ⊎ ((P → ⊥) × Later) → Later
 past none h = ⊎_elim (λ held. absurd (none held.0)) (λ later. later.1) h
 
@@ -34,7 +34,7 @@ module _ {B : Type 0} (kind : Kind B) (net : Net B) (s : State) (zones : ℕ →
       let none = nothing kind (zones v.zone) against.asked (pairing_of s v) stands in
       true≢false (ap is_err (sym against.stands ∙ none))
 
-  item_taken : (v : Voucher) (answer : Answer) (void : Bool) → v.void ≡ void → VoucherFits kind net s zones d v void → Answers (item_rows kind net s zones d v) answer → answer ≡ Ok tt
+  item_taken : (v : Voucher) (answer : Answer) (void : Bool) → v.void ≡ void → VoucherFits kind net s zones d v void → Answers (item_rules kind net s zones d v) answer → answer ≡ Ok tt
   item_taken v answer true is vouches rows =
       past (λ h. both_not is h.0) (past (λ h. both_not is h.0) (past (λ h. both_not is h.0) (past (λ h. both_not is h.0) (past (λ h. both_not is h.0) (past (λ h. h.1 vouches) rows)))))
   item_taken v answer false is vouches rows =
@@ -45,7 +45,7 @@ module _ {B : Type 0} (kind : Kind B) (net : Net B) (s : State) (zones : ℕ →
   allowed_taken bytes sized answer stage whole allowed rows =
       let of_item = past (λ h. both_not h allowed.clean) (past (λ h. both_not (eq-eqb (length bytes) 6 allowed.size) h) (past (both_not whole) (past (both_not (ap is_proving stage)) rows))) in
       let v = voucher_of bytes in
-      item_taken v answer v.void refl allowed.vouches (subst (λ e. Answers (item_rows kind net s zones e v) answer) (ap due_in stage) of_item)
+      item_taken v answer v.void refl allowed.vouches (subst (λ e. Answers (item_rules kind net s zones e v) answer) (ap due_in stage) of_item)
 
 -- lent memory of the stated lengths
 pub whole_known : {B : Type 0} (w : World B) (scratch : List B) → length w.cells ≡ book_cells → length w.places ≡ book_places → length scratch ≡ draft_cells → whole (with_scratch w scratch) ≡ true

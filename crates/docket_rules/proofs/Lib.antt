@@ -6,7 +6,7 @@ pub mod Listed
 pub mod Written
 pub mod Sounds
 pub mod Moved
-pub mod AlikeRows
+pub mod AlikeRules
 pub mod KeptAsked
 pub mod OneForm
 pub mod KeepsClose

@@ -4,11 +4,11 @@ use Rattle.docket_dues.specs.Dues.{Leads, due_after}
 use Rattle.docket_dues.specs.declared.item.Item.{Item}
 use Rattle.nets.specs.Nets.{Net}
 use Rattle.docket_rules.specs.Promise.{first_due}
-use Rattle.docket_rules.specs.Tables.{Answer, Answers, Row}
+use Rattle.docket_rules.specs.Tables.{Answer, Answers, Rule}
 use Rattle.docket_rules.proofs.Numbers.{same_number}
 
--- the first row that holds is the same for both, and so is its number
-pub one_answer : (rows : List Row) (a b : Answer) → Answers rows a → Answers rows b → a ≡ b
+-- the first rule that holds is the same for both, and so is its number
+pub one_answer : (rows : List Rule) (a b : Answer) → Answers rows a → Answers rows b → a ≡ b
 one_answer [] a b h k = h ∙ sym k
 one_answer (r ∷ rows) a b h k =
     ⊎_elim

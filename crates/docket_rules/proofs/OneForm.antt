@@ -10,7 +10,7 @@ use Rattle.docket_dues.proofs.Lists.{number_every}
 use Rattle.docket_dues.proofs.Same.{delay_same, firing_same, void_same, voucher_same}
 use Rattle.docket_records.specs.declared.voucher.Voucher.{Voucher}
 use Rattle.nets.specs.Nets.{Every, Net, transition_of}
-use Rattle.docket_rules.specs.Tables.{Against, Answer, Answers, Asks, IsVoidItem, discharge_rows, discharge_table, due_in, item_rows, pairing_of}
+use Rattle.docket_rules.specs.Tables.{Against, Answer, Answers, Asks, IsVoidItem, discharge_rules, discharge_table, due_in, item_rules, pairing_of}
 use Rattle.docket_rules.specs.Worlds.{State, in_list, listed_count, listed_zones}
 use Rattle.zone_pages.proofs.Comparison.{none_lacks, vouches_from}
 use Rattle.zone_pages.specs.Comparison.{bound_exceeds, partners_unsound, places_differ}
@@ -21,7 +21,7 @@ use Rattle.docket_records.specs.Vouchers.{voucher_of}
 use Rattle.zone_walks.specs.Walks.{Matrix, counted}
 use Rattle.zone_walks.proofs.NormalForms.{normal_unique}
 use Rattle.zones.specs.Zones.{Zone, NormalOf, points}
-use Rattle.docket_rules.proofs.AlikeRows.{Alike, alike_behind, answers_alike}
+use Rattle.docket_rules.proofs.AlikeRules.{Alike, alike_behind, answers_alike}
 use Rattle.docket_rules.proofs.KeptAsked.{same_as_one}
 
 abbrev Tried : Type 0
@@ -131,7 +131,7 @@ module _ {B : Type 0} (kind : Kind B) where
         by true e = leb-true v.zone (listed_count s) (and_parts _ _ e).1
         by false e = absurd (listed e)
 
-    items_alike : (d : Item) (v : Voucher) → Alike (item_rows kind net s zones d v) (item_rows kind net s other d v)
+    items_alike : (d : Item) (v : Voucher) → Alike (item_rules kind net s zones d v) (item_rules kind net s other d v)
     items_alike d v =
         let to = void_there s zones other same net d.zone d.transition d.matching in
         let from = void_there s other zones back net d.zone d.transition d.matching in
@@ -148,7 +148,7 @@ module _ {B : Type 0} (kind : Kind B) where
     pub discharge_alike : (sized : Bool) (bytes : List ℕ) (answer : Answer) → Answers (discharge_table kind net s sized zones bytes) answer → Answers (discharge_table kind net s sized other bytes) answer
     discharge_alike sized bytes answer h =
         let v = voucher_of bytes in
-        let rows = discharge_rows s sized bytes in
-        let here = item_rows kind net s zones (due_in s.stage) v in
-        let there = item_rows kind net s other (due_in s.stage) v in
+        let rows = discharge_rules s sized bytes in
+        let here = item_rules kind net s zones (due_in s.stage) v in
+        let there = item_rules kind net s other (due_in s.stage) v in
         answers_alike (rows ++ here) (rows ++ there) (alike_behind rows here there (items_alike (due_in s.stage) v)) answer h

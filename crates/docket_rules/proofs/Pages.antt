@@ -60,10 +60,10 @@ module _ {B : Type 0} (kind : Kind B) (form : Zone B) (few : length form.places 
   cells_hold j i p q =
       let n = length form.places in
       let other = cond (eqb j i) kind.zero kind.no_limit in
-      let row : (9 * j + i) / 9 ≡ j = omega (arith, few, q) in
+      let rule : (9 * j + i) / 9 ≡ j = omega (arith, few, q) in
       let column : (9 * j + i) % 9 ≡ i = omega (arith, few, q) in
       get_or-map-range_with_len cell 0 81 (9 * j + i) (9 * j + i) kind.no_limit (omega (arith, few, p, q)) (omega arith)
-      ∙ ap (λ k. cell_of kind n form.bound k ((9 * j + i) % 9)) row
+      ∙ ap (λ k. cell_of kind n form.bound k ((9 * j + i) % 9)) rule
       ∙ ap (λ k. cell_of kind n form.bound j k) column
       ∙ ap (λ b. cond (b && leb i n) (form.bound j i) other) (le-leb j n (omega (arith, p)))
       ∙ ap (λ b. cond b (form.bound j i) other) (le-leb i n (omega (arith, q)))

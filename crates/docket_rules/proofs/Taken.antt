@@ -1,28 +1,28 @@
--- A call that was taken: no row of its table holds, and so it came in the stage that it asks for.
+-- A call that was taken: no rule of its table holds, and so it came in the stage that it asks for.
 use Rattle.std.proofs.Common.{◌≡◌, ℕ, Bool, true, false, List, [], ◌∷◌, Ok, Some, is_some, refl, ap, ⊎_elim}
 use Rattle.std.proofs.lemmas.Bool.{false≢true}
 use Rattle.docket_dues.specs.declared.item.Item.{Item}
 use Rattle.nets.specs.Nets.{Net}
 use Rattle.docket_rules.specs.Logs.{Log, Opening, still_due, proving_stage, stage_said}
-use Rattle.docket_rules.specs.Tables.{Answer, Answers, Begins, Row, number_of, is_blank, is_listing, is_proving}
+use Rattle.docket_rules.specs.Tables.{Answer, Answers, Begins, Rule, number_of, is_blank, is_listing, is_proving}
 
--- ---- rows
+-- ---- rules
 abbrev pub taken : Answer
 taken = Ok tt
 
 taken_not_refused : (number : ℕ) → number_of taken ≡ Some number → ⊥
 taken_not_refused number e = false≢true (ap is_some e)
 
-abbrev pub NoneHolds : List Row → Type 0
+abbrev pub NoneHolds : List Rule → Type 0
 NoneHolds [] = Unit {0}
 NoneHolds (r ∷ rows) = (r.when → ⊥) × NoneHolds rows
 
-pub none_holds : (rows : List Row) → Answers rows taken → NoneHolds rows
+pub none_holds : (rows : List Rule) → Answers rows taken → NoneHolds rows
 none_holds [] answers = tt
 none_holds (r ∷ rows) answers =
     ⊎_elim (λ h. absurd (taken_not_refused r.number h.1)) (λ h. (h.0, none_holds rows h.1)) answers
 
-pub none_begins : (rows : List Row) → Begins rows taken → NoneHolds rows
+pub none_begins : (rows : List Rule) → Begins rows taken → NoneHolds rows
 none_begins [] begins = tt
 none_begins (r ∷ rows) begins =
     ⊎_elim (λ h. absurd (taken_not_refused r.number h.1)) (λ h. (h.0, none_begins rows h.1)) begins

@@ -12,7 +12,7 @@ use Rattle.docket_records.specs.ZoneRecords.{zone_of}
 use Rattle.nets.specs.Nets.{Net}
 use Rattle.docket_refusals.specs.declared.refusal.CallRefusal.{CallRefusal}
 use Rattle.docket_refusals.specs.declared.refusal.CallRefusal.TheVariants.{WrongStage, WrongMemory, FullList, Entry, Covered, NotVoid, VoidItem as IsVoid, NoSuchZone, Objected}
-use Rattle.docket_rules.specs.Tables.{Answer, Answers, Given, initial_tokens, open_table, post_table, close_table, discharge_table, discharge_rows, Begins, due_in, is_proving}
+use Rattle.docket_rules.specs.Tables.{Answer, Answers, Given, initial_tokens, open_table, post_table, close_table, discharge_table, discharge_rules, Begins, due_in, is_proving}
 use Rattle.docket_rules.specs.Worlds.{Lent, State, World, listed_pages, page_of, whole, with_scratch}
 use Rattle.docket_rules.specs.declared.stage.Stage.{Stage}
 use Rattle.docket_rules.specs.declared.stage.Stage.TheVariants.{Blank, Listing, Proving, Sealed}
@@ -116,7 +116,7 @@ pub record Discharged {B : Type 0} (kind : Kind B) (net : Net B) (before : World
 -- What the voucher itself can be refused for is promised whatever the pages hold; the rest for
 -- pages as open and post left them. Nothing is written to the book.
 pub record Discharges {B : Type 0} (kind : Kind B) (net : Net B) (bytes : List ℕ) (before : Lent B) (after : State) (left : List B) (answer : Answer) : Type 0 where
-  pub begins : Begins (discharge_rows before.world.state (whole before) bytes) answer
+  pub begins : Begins (discharge_rules before.world.state (whole before) bytes) answer
   pub answers : Sound kind net before.world → Answers (discharge_table kind net before.world.state (whole before) (page_of kind before.world) bytes) answer
   pub scratch : Left kind answer before.scratch left
   pub refused : (r : CallRefusal) → answer ≡ Err r → after ≡ before.world.state

@@ -1,6 +1,6 @@
 -- When each call is refused, and by which number.
---     row       the number of a refusal and the condition that brings it about
---     table     the rows of a call in the order in which they are tested: the first that holds is the answer, and none is "taken"
+--     rule      the number of a refusal and the condition that brings it about
+--     table     the rules of a call in the order in which they are tested: the first that holds is the answer, and none is "taken"
 --     sized     the lent book and scratch page have the stated lengths
 --     zones     the zones by their numbers, the target's 0, as their pages hold them
 use Rattle.std.specs.Prelude.{◌≡◌, ℕ, Bool, true, false, ◌&&◌, ◌||◌, ◌⊎◌, List, [], ◌∷◌, ◌++◌, length, map, take, Ok, Err, Result, Some, None, Option, cond, ◌==◌, nat_le, nat_lt, slice_index}
@@ -26,12 +26,12 @@ use Rattle.docket_rules.specs.declared.stage.Stage.TheVariants.{Blank, Listing, 
 use Rattle.zones.specs.Zones.{Zone, Inconsistent, Satisfies}
 
 -- ---- tables
-pub record Row : Type 1 where
+pub record Rule : Type 1 where
   pub number : ℕ
   pub when : Type 0
 
-abbrev pub row : ℕ → Type 0 → Row
-row number when = record { number = number; when = when }
+abbrev pub rule : ℕ → Type 0 → Rule
+rule number when = record { number = number; when = when }
 
 abbrev pub Answer : Type 0
 Answer = Result (Unit {0}) CallRefusal
@@ -41,16 +41,16 @@ abbrev pub number_of : Answer → Option ℕ
 number_of (Ok u) = None
 number_of (Err r) = Some (call_refusal_number r)
 
-abbrev pub Answers : List Row → Answer → Type 0
+abbrev pub Answers : List Rule → Answer → Type 0
 Answers [] answer = answer ≡ Ok tt
-Answers (r ∷ rows) answer =
-    (r.when × (number_of answer ≡ Some r.number)) ⊎ ((r.when → ⊥) × Answers rows answer)
+Answers (r ∷ later) answer =
+    (r.when × (number_of answer ≡ Some r.number)) ⊎ ((r.when → ⊥) × Answers later answer)
 
--- one of these rows is the answer, or none of them holds
-abbrev pub Begins : List Row → Answer → Type 0
+-- one of these rules is the answer, or none of them holds
+abbrev pub Begins : List Rule → Answer → Type 0
 Begins [] answer = Unit {0}
-Begins (r ∷ rows) answer =
-    (r.when × (number_of answer ≡ Some r.number)) ⊎ ((r.when → ⊥) × Begins rows answer)
+Begins (r ∷ later) answer =
+    (r.when × (number_of answer ≡ Some r.number)) ⊎ ((r.when → ⊥) × Begins later answer)
 
 -- ---- stages
 abbrev pub is_blank : Stage → Bool
@@ -85,14 +85,14 @@ due_in (Proving d) = d
 due_in Sealed = target_item
 
 -- ---- the record of a zone
-abbrev pub record_rows : {B : Type 0} → Kind B → (net_places : ℕ) → (bytes : List ℕ) → List Row
-record_rows kind net_places bytes =
-    row 20 (wrong_length bytes ≡ true)
-    ∷ row 21 (not_zero bytes ≡ true)
-    ∷ row 22 (too_many bytes ≡ true)
-    ∷ row 23 (no_such_place net_places bytes ≡ true)
-    ∷ row 24 (mark_under_plain kind.marks bytes ≡ true)
-    ∷ row 25 (Inconsistent kind (zone_of kind bytes))
+abbrev pub record_rules : {B : Type 0} → Kind B → (net_places : ℕ) → (bytes : List ℕ) → List Rule
+record_rules kind net_places bytes =
+    rule 20 (wrong_length bytes ≡ true)
+    ∷ rule 21 (not_zero bytes ≡ true)
+    ∷ rule 22 (too_many bytes ≡ true)
+    ∷ rule 23 (no_such_place net_places bytes ≡ true)
+    ∷ rule 24 (mark_under_plain kind.marks bytes ≡ true)
+    ∷ rule 25 (Inconsistent kind (zone_of kind bytes))
     ∷ []
 
 -- ---- open: a place and an age for each initial token, and the target's record
@@ -113,32 +113,32 @@ initial_tokens g = map (λ both. record { place = both.0; age = both.1 }) (zip g
 abbrev pub too_old : ℕ → Bool
 too_old age = nat_lt 32767 age
 
-abbrev pub initial_rows : (net_places : ℕ) → Given → List Row
-initial_rows net_places g =
-    row 22 (nat_lt 8 (length g.places) || list_any too_old g.ages ≡ true)
-    ∷ row 23 (list_any (nat_le net_places) g.places ≡ true)
+abbrev pub initial_rules : (net_places : ℕ) → Given → List Rule
+initial_rules net_places g =
+    rule 22 (nat_lt 8 (length g.places) || list_any too_old g.ages ≡ true)
+    ∷ rule 23 (list_any (nat_le net_places) g.places ≡ true)
     ∷ []
 
 abbrev pub open_table : {B : Type 0} → Kind B → Net B → State → (sized : Bool) → Given →
-    (target : List ℕ) → List Row
+    (target : List ℕ) → List Rule
 open_table kind net s sized g target =
-    row 40 (is_blank s.stage ≡ false)
-    ∷ row 41 (sized && even g ≡ false)
-    ∷ initial_rows net.places g ++ record_rows kind net.places target
+    rule 40 (is_blank s.stage ≡ false)
+    ∷ rule 41 (sized && even g ≡ false)
+    ∷ initial_rules net.places g ++ record_rules kind net.places target
 
 -- ---- post: a listed zone's record
 abbrev pub post_table : {B : Type 0} → Kind B → Net B → State → (sized : Bool) →
-    (zone : List ℕ) → List Row
+    (zone : List ℕ) → List Rule
 post_table kind net s sized zone =
-    row 40 (is_listing s.stage ≡ false)
-    ∷ row 41 (sized ≡ false)
-    ∷ row 42 (listed_count s ≡ 63)
-    ∷ record_rows kind net.places zone
-    ++ row 26 (Satisfies kind 1 (zone_of kind zone) (marking_of s.initial)) ∷ []
+    rule 40 (is_listing s.stage ≡ false)
+    ∷ rule 41 (sized ≡ false)
+    ∷ rule 42 (listed_count s ≡ 63)
+    ∷ record_rules kind net.places zone
+    ++ rule 26 (Satisfies kind 1 (zone_of kind zone) (marking_of s.initial)) ∷ []
 
 -- ---- close
-abbrev pub close_table : State → List Row
-close_table s = row 40 (is_listing s.stage ≡ false) ∷ []
+abbrev pub close_table : State → List Rule
+close_table s = rule 40 (is_listing s.stage ≡ false) ∷ []
 
 -- ---- discharge: six bytes for the first item that is due
 -- how many partners a voucher uses: one for each token of its listed zone; one outside the list
@@ -149,10 +149,10 @@ partners_used s v = cond (in_list s v.zone) (slice_index s.counts v.zone) 8
 abbrev pub pairing_of : State → Voucher → List ℕ
 pairing_of s v = take (slice_index s.counts v.zone) v.partners
 
-abbrev pub voucher_rows : State → (bytes : List ℕ) → List Row
-voucher_rows s bytes =
-    row 20 (length bytes == 6 ≡ false)
-    ∷ row 21 (voucher_spare bytes || unused_set (voucher_of bytes) (partners_used s (voucher_of bytes)) ≡ true)
+abbrev pub voucher_rules : State → (bytes : List ℕ) → List Rule
+voucher_rules s bytes =
+    rule 20 (length bytes == 6 ≡ false)
+    ∷ rule 21 (voucher_spare bytes || unused_set (voucher_of bytes) (partners_used s (voucher_of bytes)) ≡ true)
     ∷ []
 
 abbrev pub IsVoidItem : {B : Type 0} → Kind B → Net B → State → (zones : ℕ → Zone B) → Item → Type 0
@@ -169,25 +169,25 @@ pub record Against {B : Type 0} (kind : Kind B) (net : Net B) (s : State) (zones
   pub asks : Asks kind net s zones d asked
   pub stands : objection_of kind (zones v.zone) asked (pairing_of s v) ≡ Err objection
 
-abbrev pub item_rows : {B : Type 0} → Kind B → Net B → State → (zones : ℕ → Zone B) → Item →
-    Voucher → List Row
-item_rows kind net s zones d v =
-    row 27 ((v.void ≡ true) × (IsVoidItem kind net s zones d → ⊥))
-    ∷ row 28 ((v.void ≡ false) × IsVoidItem kind net s zones d)
-    ∷ row 29 ((v.void ≡ false) × (in_list s v.zone ≡ false))
-    ∷ row 30 ((v.void ≡ false) × Against kind net s zones d v Partner)
-    ∷ row 31 ((v.void ≡ false) × Against kind net s zones d v Place)
-    ∷ row 32 ((v.void ≡ false) × Against kind net s zones d v Bound)
+abbrev pub item_rules : {B : Type 0} → Kind B → Net B → State → (zones : ℕ → Zone B) → Item →
+    Voucher → List Rule
+item_rules kind net s zones d v =
+    rule 27 ((v.void ≡ true) × (IsVoidItem kind net s zones d → ⊥))
+    ∷ rule 28 ((v.void ≡ false) × IsVoidItem kind net s zones d)
+    ∷ rule 29 ((v.void ≡ false) × (in_list s v.zone ≡ false))
+    ∷ rule 30 ((v.void ≡ false) × Against kind net s zones d v Partner)
+    ∷ rule 31 ((v.void ≡ false) × Against kind net s zones d v Place)
+    ∷ rule 32 ((v.void ≡ false) × Against kind net s zones d v Bound)
     ∷ []
 
-abbrev pub discharge_rows : State → (sized : Bool) → (bytes : List ℕ) → List Row
-discharge_rows s sized bytes =
-    row 40 (is_proving s.stage ≡ false)
-    ∷ (row 41 (sized ≡ false)
-    ∷ voucher_rows s bytes)
+abbrev pub discharge_rules : State → (sized : Bool) → (bytes : List ℕ) → List Rule
+discharge_rules s sized bytes =
+    rule 40 (is_proving s.stage ≡ false)
+    ∷ (rule 41 (sized ≡ false)
+    ∷ voucher_rules s bytes)
 
 abbrev pub discharge_table : {B : Type 0} → Kind B → Net B → State → (sized : Bool) →
-    (zones : ℕ → Zone B) → (bytes : List ℕ) → List Row
+    (zones : ℕ → Zone B) → (bytes : List ℕ) → List Rule
 discharge_table kind net s sized zones bytes =
-    discharge_rows s sized bytes
-    ++ item_rows kind net s zones (due_in s.stage) (voucher_of bytes)
+    discharge_rules s sized bytes
+    ++ item_rules kind net s zones (due_in s.stage) (voucher_of bytes)

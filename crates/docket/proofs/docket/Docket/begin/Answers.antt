@@ -1,6 +1,6 @@
 use Rattle.std.proofs.Common.{◌++◌, ◌∷◌, [], length, Ok, refl, sym, ap, ◌∙◌, subst}
 use Rattle.docket_records.specs.ZoneRecords.{zone_of}
-use Rattle.docket_rules.specs.Tables.{given, initial_tokens, record_rows}
+use Rattle.docket_rules.specs.Tables.{given, initial_tokens, record_rules}
 use Rattle.docket_rules.specs.declared.stage.Stage.TheVariants.{Listing}
 use Rattle.docket.proofs.Gathered.{GatheredBy, gathered_by}
 use Rattle.docket.proofs.Records.{page_written, recorded}
@@ -15,7 +15,7 @@ returns-clause-tried g c =
     let tokens = c.in_ok-tokens.tokens in
     let draft = c.read_zone.new.cells in
     let opening = given c.args.initial.now c.args.ages.now in
-    let first = subst (GatheredBy net_places opening (record_rows kind net_places target)) (sym c.in_ok-initial.ensures) (gathered_by net_places opening (record_rows kind net_places target)) in
+    let first = subst (GatheredBy net_places opening (record_rules kind net_places target)) (sym c.in_ok-initial.ensures) (gathered_by net_places opening (record_rules kind net_places target)) in
     let h = recorded kind net_places target [] c.args.draft.now draft (Ok tokens) c.requires.drafted c.in_ok-tokens.ensures.answer in
     let counted = c.push.ensures.items ∙ ap (λ xs. xs ++ (c.len.result ∷ [])) c.clear.ensures ∙ ap (λ n. n ∷ []) (c.len.ensures.value ∙ ap length h.places) in
     record {

@@ -4,7 +4,7 @@ use Rattle.zone_cells.specs.Drafts.{draft_zone}
 use Rattle.docket_records.specs.ZoneRecords.{zone_of}
 use Rattle.zone_markings.specs.Initial.{marking_of}
 use Rattle.docket_refusals.specs.declared.refusal.CallRefusal.TheVariants.{Covered}
-use Rattle.docket_rules.specs.Tables.{row}
+use Rattle.docket_rules.specs.Tables.{rule}
 use Rattle.docket_rules.specs.declared.stage.Stage.TheVariants.{Listing}
 use Rattle.zones.specs.Zones.{Satisfies}
 use Rattle.docket.proofs.Records.{form_covers, page_written, recorded, zone_covers}
@@ -18,7 +18,7 @@ returns-then-satisfies-clause-tried g c =
     let m = marking_of c.self.inside.initial.items in
     let tokens = c.in_ok-tokens.tokens in
     let draft = c.read_zone.new.cells in
-    let h = recorded kind c.args.net_places zone (row 26 (Satisfies kind 1 (zone_of kind zone) m) ∷ []) c.args.draft.now draft (Ok tokens) c.requires.drafted c.in_ok-tokens.ensures.answer in
+    let h = recorded kind c.args.net_places zone (rule 26 (Satisfies kind 1 (zone_of kind zone) m) ∷ []) c.args.draft.now draft (Ok tokens) c.requires.drafted c.in_ok-tokens.ensures.answer in
     let s = subst (λ ps. Satisfies kind 1 (draft_zone kind ps draft) m) c.deref.ensures.0 (c.satisfies.ensures.0 c.if-satisfies.true) in
     rw (← c.self.view_is)
     (record {
@@ -35,7 +35,7 @@ returns-clause-tried g c =
     let tokens = c.in_ok-tokens.tokens in
     let draft = c.read_zone.new.cells in
     let z = zone_of kind c.args.zone.now in
-    let h = recorded kind c.args.net_places c.args.zone.now (row 26 (Satisfies kind 1 z m) ∷ []) c.args.draft.now draft (Ok tokens) c.requires.drafted c.in_ok-tokens.ensures.answer in
+    let h = recorded kind c.args.net_places c.args.zone.now (rule 26 (Satisfies kind 1 z m) ∷ []) c.args.draft.now draft (Ok tokens) c.requires.drafted c.in_ok-tokens.ensures.answer in
     let apart = λ (s : Satisfies kind 1 z m).
     false≢true (sym c.if-satisfies.false ∙ c.satisfies.ensures.1 (subst (λ ps. Satisfies kind 1 (draft_zone kind ps draft) m) (sym c.deref.ensures.0) (form_covers kind z draft tokens.items h.formed h.places m s))) in
     let counted = c.push.ensures.items ∙ ap (λ n. self.counts.items ++ (n ∷ [])) (c.len.ensures.value ∙ ap length h.places) in

@@ -13,8 +13,8 @@ use Rattle.zones.specs.Zones.{Zone, points}
 use Rattle.zone_cells.specs.Cells.{arc_at}
 use Rattle.zone_cells.specs.Drafts.{largest_predecessor}
 use Rattle.zone_cells.proofs.Steps.{staying_inside}
-use Rattle.zone_closed_forms.specs.ClosedForms.{ClockRows, by_clock, framed, closed, crossed, narrowed_rows, all_narrowed, spread, kept_closed, replaced, fired_zone}
-use Rattle.zone_closed_forms.specs.Laws.{FiredForm}
+use Rattle.zone_closed_forms.specs.ClosedForms.{ClockRows, by_clock, framed, closed, crossed, narrowed_rows, all_narrowed, spread, kept_closed, kept_zone, fired_zone}
+use Rattle.zone_closed_forms.specs.Laws.{FiringForm}
 use Rattle.zone_closed_forms.specs.ClockRows.{Alike, AlikeOr, narrowed_next, narrowed_on}
 
 module _ {B : Type 0} (kind : Kind B) where
@@ -77,30 +77,24 @@ module _ {B : Type 0} (kind : Kind B) where
       framed_alike rows other j k _ _ up low
       (ap (λ way. cond (ltb j (length kept) && ltb k (length kept)) (lesser kind (x (get_or kept j 0) (get_or kept k 0)) way) way) (by_clock_alike rows other j k up low))
 
-  pub kept_alike : (n : ℕ) (x : Matrix B) (kept : List ℕ) (rows other : ClockRows B) → Alike n rows other → Same n (kept_closed kind x kept rows) (kept_closed kind x kept other)
-  kept_alike n x kept rows other h j k p q = kept_closed_alike x kept rows other j k (h.up j p) (h.low k q)
-
-  module _ (n : ℕ) (x : Matrix B) (kept : List ℕ) (arcs : List (Arc B)) (rows other : ClockRows B) (inside : (j : ℕ) → get_or kept j 0 < n) (h : Alike n rows other) where
-    abbrev now : ClockRows B
-    now = spread kind kept arcs rows
-
-    abbrev then : ClockRows B
-    then = spread kind kept arcs other
-
-    up_spread : (j : ℕ) → now.up j ≡ then.up j
+  module _ (n : ℕ) (kept : List ℕ) (arcs : List (Arc B)) (rows other : ClockRows B) (inside : (j : ℕ) → get_or kept j 0 < n) (h : Alike n rows other) where
+    up_spread : (j : ℕ) → (spread kind kept arcs rows).up j ≡ (spread kind kept arcs other).up j
     up_spread j = ap (λ b. cond (ltb j (length kept)) b (arc_at kind arcs (j - length kept)).range.upper) (h.up (get_or kept j 0) (inside j))
 
-    low_spread : (k : ℕ) → now.low k ≡ then.low k
+    low_spread : (k : ℕ) → (spread kind kept arcs rows).low k ≡ (spread kind kept arcs other).low k
     low_spread k = ap (λ b. cond (ltb k (length kept)) b (arc_at kind arcs (k - length kept)).range.lower) (h.low (get_or kept k 0) (inside k))
 
-    pub replaced_alike : (j k : ℕ) → replaced kind x kept arcs rows j k ≡ replaced kind x kept arcs other j k
-    replaced_alike j k = kept_closed_alike x kept now then j k (up_spread j) (low_spread k)
-
-  pub fired_alike : (t : Transition B) (matching : List ℕ) (z : Zone B) (rows other : ClockRows B) → Alike (points z) rows other → FiredForm kind t matching z rows → FiredForm kind t matching z other
-  fired_alike t matching z rows other h f =
-      let n : ℕ = points (fired_zone kind t matching z rows) in
-      let same : Same n (replaced kind z.bound (0 ∷ staying matching z) t.inputs rows) (replaced kind z.bound (0 ∷ staying matching z) t.inputs other) = λ j k p q. replaced_alike (points z) z.bound (0 ∷ staying matching z) t.inputs rows other (staying_inside matching z) h j k in
+  pub fired_alike : (t : Transition B) (matching : List ℕ) (z : Zone B) (rows other own : ClockRows B) → Alike (points z) rows other → Alike (points (fired_zone kind t matching z rows)) (spread kind (0 ∷ staying matching z) t.inputs other) own → FiringForm kind t matching z (fired_zone kind t matching z rows) → FiringForm kind t matching z (kept_zone kind z (staying matching z) t.inputs own)
+  fired_alike t matching z rows other own h k f =
+      let is = f.is in
       record {
-        is = record { possible = f.is.possible; narrow = f.is.narrow; narrows = f.is.narrows; places = f.is.places; bounds = same_to kind n _ _ _ same f.is.bounds };
-        small = same_sized kind n largest_predecessor _ _ same f.small;
+        is = record { possible = is.possible; narrow = is.narrow; narrows = is.narrows; places = is.places; bounds = same_to kind (points (fired_zone kind t matching z rows)) _ _ _ same is.bounds };
+        small = same_sized kind (points (fired_zone kind t matching z rows)) largest_predecessor _ _ same f.small;
       }
+    where
+      same : Same (points (fired_zone kind t matching z rows)) (fired_zone kind t matching z rows).bound (kept_zone kind z (staying matching z) t.inputs own).bound
+      same j i p q =
+          let kept : List ℕ = 0 ∷ staying matching z in
+          kept_closed_alike z.bound kept (spread kind kept t.inputs rows) own j i
+          (up_spread (points z) kept t.inputs rows other (staying_inside matching z) h j ∙ k.up j p)
+          (low_spread (points z) kept t.inputs rows other (staying_inside matching z) h i ∙ k.low i q)

@@ -5,8 +5,8 @@ use Rattle.bounds.specs.Kinds.{Kind}
 use Rattle.zone_walks.specs.Walks.{lesser}
 use Rattle.zone_walks.proofs.Lessers.{lesser_left, lesser_right, lesser_cases}
 use Rattle.zone_closed_forms.specs.ClockRows.{ClockRowLaws}
-use Rattle.zone_closed_forms.proofs.Alike.{all_alike, closed_alike, kept_alike, next_narrowed, done_narrowed, fired_alike}
-use Rattle.zone_closed_forms.proofs.Kept.{all_kept, all_places, begun_same}
+use Rattle.zone_closed_forms.proofs.Alike.{all_alike, next_narrowed, done_narrowed, fired_alike}
+use Rattle.zone_closed_forms.proofs.Kept.{kept_delayed, kept_places, kept_whole}
 
 module _ {B : Type 0} (kind : Kind B) where
   lesser_compared : (a b c : B) → kind.at_most (lesser kind a b) c ≡ (kind.at_most a c || kind.at_most b c)
@@ -28,11 +28,9 @@ module _ {B : Type 0} (kind : Kind B) where
         next = next_narrowed kind;
         done = done_narrowed kind;
         alike = all_alike kind;
-        bounds = λ n x rows other j k h. closed_alike kind n x rows other h j k;
-        kept_bounds = λ n x kept rows other j k h. kept_alike kind n x kept rows other h j k;
+        whole = λ z own j k h alike. kept_whole kind z own h alike j k;
+        places = λ z own. kept_places kind z own;
+        delayed = λ z own. kept_delayed kind z own;
         fired = fired_alike kind;
-        stays = λ z rows. all_kept kind z rows;
-        places = all_places;
-        unchanged = λ z j k h. begun_same kind z h j k;
         compared = lesser_compared;
       }

@@ -8,8 +8,9 @@ use Rattle.zone_walks.proofs.Sums.{monotone_right}
 use Rattle.zones.specs.Zones.{Zone, points}
 use Rattle.zone_cells.specs.Drafts.{largest_listed}
 use Rattle.zone_cells.proofs.Steps.{Good, FromToken, DelayedTo, delay_good, delay_normal}
-use Rattle.zone_closed_forms.specs.ClosedForms.{by_clock, closed, least_below, delayed_rows}
-use Rattle.zone_closed_forms.specs.Laws.{Listed, DelayedForm}
+use Rattle.zone_closed_forms.specs.ClosedForms.{by_clock, closed, least_below, delayed_rows, delayed_zone}
+use Rattle.zone_cells.specs.Drafts.{PageFormed}
+use Rattle.zone_closed_forms.specs.Laws.{DelayForm}
 use Rattle.zone_closed_forms.proofs.Shorter.{Under}
 use Rattle.zone_closed_forms.proofs.Narrowed.{listed_good}
 
@@ -45,7 +46,7 @@ module _ {B : Type 0} (kind : Kind B) where
     least_sized s n zero l sized = omega (arith, kind.zero_size)
     least_sized s n (suc m) l sized = lesser_size kind (x (suc m) k) (least_below kind x m k) s (sized (suc m) l) (least_sized s n m (omega arith) sized)
 
-  module _ (z : Zone B) (h : Listed kind z) where
+  module _ (z : Zone B) (h : PageFormed kind z) where
     abbrev x : Matrix B
     x = z.bound
 
@@ -97,7 +98,7 @@ module _ {B : Type 0} (kind : Kind B) where
           least = λ k some l. subst (λ b. (b ≡ kind.zero) ⊎ FromToken (points z) x k b) (sym (first k some)) (least_is x k (points z) tokens (omega arith));
         }
 
-    pub delayed_form : DelayedForm kind z
+    pub delayed_form : DelayForm kind z (delayed_zone kind z)
     delayed_form =
         record {
           is = record { places = refl; bounds = delay_normal kind (points z) largest_listed z.bound y (omega (arith, h.few)) (omega arith) (omega arith) good delayed_to };

@@ -9,8 +9,9 @@ use Rattle.zones.specs.Predecessors.{staying, picked, narrowed_by, matches}
 use Rattle.zones.specs.Zones.{Zone, points}
 use Rattle.zone_cells.specs.Cells.{arc_at}
 use Rattle.zone_cells.proofs.Steps.{Good, Added, to_clock, from_clock, range_sizes, matches_below, staying_inside, firing_predecessor, firing_good}
-use Rattle.zone_closed_forms.specs.ClosedForms.{ClockRows, by_clock, spread, replaced, narrowed_from}
-use Rattle.zone_closed_forms.specs.Laws.{Listed, FiredForm, FiredFormOr}
+use Rattle.zone_closed_forms.specs.ClosedForms.{ClockRows, by_clock, spread, kept_closed, narrowed_from, fired_zone}
+use Rattle.zone_cells.specs.Drafts.{PageFormed}
+use Rattle.zone_closed_forms.specs.Laws.{FiringForm, FiringFormOr}
 use Rattle.zone_closed_forms.proofs.Greatest.{Consistent}
 use Rattle.zone_closed_forms.proofs.Laid.{Laid, shortest, shortest_still, shortest_to, shortest_from}
 use Rattle.zone_closed_forms.proofs.Narrowing.{Exact, ExactOr}
@@ -37,7 +38,7 @@ module _ {B : Type 0} (kind : Kind B) where
     off = picked (0 ∷ stay) (shortest kind x rows)
 
     abbrev y : Matrix B
-    y = replaced kind x (0 ∷ stay) arcs rows
+    y = kept_closed kind x (0 ∷ stay) (spread kind (0 ∷ stay) arcs rows)
 
     arc_limits : (j : ℕ) → m ≤ j → j < m + length arcs → RangeLimits kind (arc_at kind arcs (j - m)).range
     arc_limits j a b = (every_arc (ArcLimits kind places) arcs (j - m) _ limits (omega arith)).range
@@ -102,8 +103,8 @@ module _ {B : Type 0} (kind : Kind B) where
         (λ _. cond_both (eqb i 0) _ _ (λ c. c ≡ by_clock kind now j i) (λ e. sym (by_clock_to j a) ∙ ap (by_clock kind now j) (sym (eqb-true i 0 e)))
         (λ _. cond-false (ltb j m && ltb i m) _ (by_clock kind now j i) (not_both j i either)))
 
-    pub replaced_added : Added kind (suc (length stay)) arcs (length arcs) (picked (0 ∷ stay) (shortest kind x rows)) (replaced kind x (0 ∷ stay) arcs rows)
-    replaced_added =
+    pub kept_added : Added kind (suc (length stay)) arcs (length arcs) (picked (0 ∷ stay) (shortest kind x rows)) (kept_closed kind x (0 ∷ stay) (spread kind (0 ∷ stay) arcs rows))
+    kept_added =
         record {
           old = old;
           still = λ j a. cond-true (eqb j j) kind.zero _ (eq-eqb j j refl);
@@ -111,11 +112,11 @@ module _ {B : Type 0} (kind : Kind B) where
         }
 
   -- ---- a firing
-  module _ (places : ℕ) (t : Transition B) (matching : List ℕ) (z : Zone B) (h : Listed kind z) (limits : TransitionLimits kind places t) (matched : matches z.places t.outputs matching ≡ true) where
+  module _ (places : ℕ) (t : Transition B) (matching : List ℕ) (z : Zone B) (h : PageFormed kind z) (limits : TransitionLimits kind places t) (matched : matches z.places t.outputs matching ≡ true) where
     inside : Every (λ d. d < points z) matching
     inside = matches_below z.places t.outputs matching matched
 
-    fired : (rows : ClockRows B) → Exact kind (points z) z.bound (narrowed_by kind t.outputs matching z.bound) rows → FiredForm kind t matching z rows
+    fired : (rows : ClockRows B) → Exact kind (points z) z.bound (narrowed_by kind t.outputs matching z.bound) rows → FiringForm kind t matching z (fired_zone kind t matching z rows)
     fired rows e =
         record {
           is = firing_predecessor kind t matching z places h.few good limits matched narrow c.normal c.none y added;
@@ -132,14 +133,14 @@ module _ {B : Type 0} (kind : Kind B) where
         c = exact_consistent kind z h places t.outputs matching limits.outputs inside rows e
 
         y : Matrix B
-        y = replaced kind z.bound (0 ∷ staying matching z) t.inputs rows
+        y = kept_closed kind z.bound (0 ∷ staying matching z) (spread kind (0 ∷ staying matching z) t.inputs rows)
 
-        added : Added kind (suc (length (staying matching z))) t.inputs (length t.inputs) (picked (0 ∷ staying matching z) (shortest kind z.bound rows)) (replaced kind z.bound (0 ∷ staying matching z) t.inputs rows)
-        added = replaced_added (points z) (omega arith) z.bound good rows e.laid (staying matching z) (staying_inside matching z) places t.inputs limits.inputs
+        added : Added kind (suc (length (staying matching z))) t.inputs (length t.inputs) (picked (0 ∷ staying matching z) (shortest kind z.bound rows)) (kept_closed kind z.bound (0 ∷ staying matching z) (spread kind (0 ∷ staying matching z) t.inputs rows))
+        added = kept_added (points z) (omega arith) z.bound good rows e.laid (staying matching z) (staying_inside matching z) places t.inputs limits.inputs
 
-    fired_or : (o : Option (ClockRows B)) → ExactOr kind (points z) z.bound (narrowed_by kind t.outputs matching z.bound) o → FiredFormOr kind t matching z o
+    fired_or : (o : Option (ClockRows B)) → ExactOr kind (points z) z.bound (narrowed_by kind t.outputs matching z.bound) o → FiringFormOr kind t matching z o
     fired_or None e = exact_negative kind z h places t.outputs matching limits.outputs inside e
     fired_or (Some rows) e = fired rows e
 
-    pub fired_form : FiredFormOr kind t matching z (narrowed_from kind t.outputs matching z.bound)
+    pub fired_form : FiringFormOr kind t matching z (narrowed_from kind t.outputs matching z.bound)
     fired_form = fired_or (narrowed_from kind t.outputs matching z.bound) (exact_or kind z h places t.outputs matching limits.outputs inside)

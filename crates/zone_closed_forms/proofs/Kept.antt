@@ -1,17 +1,21 @@
--- Where every token stays and none is added, the form of a firing is the closed form; begun rows leave a zone as it is.
-use Rattle.std.proofs.Common.{◌≡◌, ℕ, zero, suc, ◌+◌, ◌<◌, true, ltb, List, [], ◌∷◌, map, length, get_or, sym, refl, ap, ◌∙◌, arith}
+-- Where every token stays and none is added: a page's own zone, and the one before a delay.
+use Rattle.std.proofs.Common.{◌≡◌, ℕ, zero, suc, ◌+◌, ◌<◌, true, ltb, List, [], ◌∷◌, map, length, get_or, sym, refl, ap, ◌∙◌, subst, arith}
 use Rattle.std.proofs.lemmas.Bool.{cond-true, lt-ltb, and_from}
+use Rattle.std.proofs.lemmas.List.{append-nil}
 use Rattle.bounds.specs.Kinds.{Kind}
 use Rattle.nets.specs.Nets.{numbered}
-use Rattle.zone_walks.specs.Walks.{lesser}
+use Rattle.zone_walks.specs.Walks.{lesser, Sized}
 use Rattle.zone_walks.proofs.Closed.{Same}
 use Rattle.zone_walks.proofs.Lessers.{lesser_is_left}
+use Rattle.zone_walks.proofs.NormalForms.{same_sized, same_to}
 use Rattle.zones.specs.Predecessors.{others, staying, places_at}
 use Rattle.zones.specs.Zones.{Zone, points}
-use Rattle.zone_cells.proofs.Steps.{Good}
-use Rattle.zone_closed_forms.specs.ClosedForms.{ClockRows, begun, by_clock, closed, spread, replaced}
-use Rattle.zone_closed_forms.specs.Laws.{Listed}
-use Rattle.zone_closed_forms.proofs.Alike.{framed_alike}
+use Rattle.zone_cells.specs.Drafts.{largest_listed}
+use Rattle.zone_closed_forms.specs.ClockRows.{Alike}
+use Rattle.zone_closed_forms.specs.ClosedForms.{ClockRows, begun, by_clock, closed, kept_closed, kept_zone, delayed_rows, delayed_zone}
+use Rattle.zone_cells.specs.Drafts.{PageFormed}
+use Rattle.zone_closed_forms.specs.Laws.{DelayForm}
+use Rattle.zone_closed_forms.proofs.Alike.{closed_alike, framed_alike}
 use Rattle.zone_closed_forms.proofs.Laid.{shortest_is_closed}
 use Rattle.zone_closed_forms.proofs.Narrowed.{listed_good}
 use Rattle.zone_closed_forms.proofs.Narrowing.{begun_exact}
@@ -34,40 +38,46 @@ all_items : (xs : List ℕ) → map (λ i. get_or xs i 0) (others [] 0 (length x
 all_items [] = refl
 all_items (x ∷ xs) = ap (λ l. x ∷ l) (all_later (λ i. get_or (x ∷ xs) i 0) 0 (length xs) ∙ all_items xs)
 
-pub all_places : {B : Type 0} (z : Zone B) → places_at (staying [] z) z ≡ z.places
+all_places : {B : Type 0} (z : Zone B) → places_at (staying [] z) z ≡ z.places
 all_places z = all_later (λ i. numbered z.places i 0) 0 (length z.places) ∙ all_items z.places
 
 module _ {B : Type 0} (kind : Kind B) (z : Zone B) where
-  kept_count : length (0 ∷ staying [] z) ≡ points z
-  kept_count = ap suc (all_count 1 (length z.places))
+  abbrev kept : List ℕ
+  kept = 0 ∷ staying [] z
 
   kept_at : (j : ℕ) → j < points z → get_or (0 ∷ staying [] z) j 0 ≡ j
   kept_at zero l = refl
   kept_at (suc j) l = all_at 1 (length z.places) j (omega arith) ∙ omega arith
 
   kept_test : (j : ℕ) → j < points z → ltb j (length (0 ∷ staying [] z)) ≡ true
-  kept_test j l = ap (ltb j) kept_count ∙ lt-ltb j (points z) l
+  kept_test j l = ap (ltb j) (ap suc (all_count 1 (length z.places))) ∙ lt-ltb j (points z) l
 
-  module _ (rows : ClockRows B) where
-    abbrev now : ClockRows B
-    now = spread kind (0 ∷ staying [] z) [] rows
-
-    up_kept : (j : ℕ) → j < points z → now.up j ≡ rows.up j
-    up_kept j l = cond-true _ _ _ (kept_test j l) ∙ ap rows.up (kept_at j l)
-
-    low_kept : (k : ℕ) → k < points z → now.low k ≡ rows.low k
-    low_kept k l = cond-true _ _ _ (kept_test k l) ∙ ap rows.low (kept_at k l)
-
-    pub all_kept : Same (points z) (replaced kind z.bound (0 ∷ staying [] z) [] rows) (closed kind z.bound rows)
+  module _ (own : ClockRows B) where
+    all_kept : Same (points z) (kept_closed kind z.bound (0 ∷ staying [] z) own) (closed kind z.bound own)
     all_kept j k p q =
-        framed_alike kind now rows j k _ _ (up_kept j p) (low_kept k q)
+        framed_alike kind own own j k _ _ refl refl
         (cond-true _ _ _ (and_from _ _ (kept_test j p) (kept_test k q))
-        ∙ ap (λ b. lesser kind b (by_clock kind now j k)) (ap (λ i. z.bound i (get_or (0 ∷ staying [] z) k 0)) (kept_at j p) ∙ ap (z.bound j) (kept_at k q))
-        ∙ ap (λ b. lesser kind (z.bound j k) (kind.sum b (now.low k))) (up_kept j p)
-        ∙ ap (λ b. lesser kind (z.bound j k) (kind.sum (rows.up j) b)) (low_kept k q))
+        ∙ ap (λ b. lesser kind b (by_clock kind own j k)) (ap (λ i. z.bound i (get_or kept k 0)) (kept_at j p) ∙ ap (z.bound j) (kept_at k q)))
 
-  pub begun_same : Listed kind z → Same (points z) (closed kind z.bound (begun z.bound)) z.bound
-  begun_same h j k p q =
-      let g : Good kind (points z) _ z.bound = listed_good kind z h in
-      sym (shortest_is_closed kind (points z) (omega arith) z.bound g (begun z.bound) (begun_exact kind (points z) (omega arith) z.bound g).laid j k p q)
-      ∙ lesser_is_left kind (z.bound j k) (by_clock kind (begun z.bound) j k) (g.closed.settled 0 (omega arith) j k p q)
+    pub kept_places : (kept_zone kind z (staying [] z) [] own).places ≡ z.places
+    kept_places = append-nil (places_at (staying [] z) z) ∙ all_places z
+
+    kept_as : (rows : ClockRows B) → Alike (points z) rows own → Same (points z) (closed kind z.bound rows) (kept_zone kind z (staying [] z) [] own).bound
+    kept_as rows h j k p q = closed_alike kind (points z) z.bound rows own h j k p q ∙ sym (all_kept j k p q)
+
+    pub kept_delayed : Alike (points z) (delayed_rows kind z) own → DelayForm kind z (delayed_zone kind z) → DelayForm kind z (kept_zone kind z (staying [] z) [] own)
+    kept_delayed h d =
+        let same = kept_as (delayed_rows kind z) h in
+        let is = d.is in
+        record {
+          is = record { places = kept_places; bounds = same_to kind (points z) _ _ _ same is.bounds };
+          small = subst (λ ps. Sized kind (suc (length ps)) largest_listed (kept_zone kind z (staying [] z) [] own).bound) (sym kept_places) (same_sized kind (points z) largest_listed _ _ same d.small);
+        }
+
+    pub kept_whole : PageFormed kind z → Alike (points z) (begun z.bound) own → Same (points z) (kept_zone kind z (staying [] z) [] own).bound z.bound
+    kept_whole h alike j k p q =
+        let g = listed_good kind z h in
+        let e = (begun_exact kind (points z) (omega arith) z.bound g).laid in
+        sym (kept_as (begun z.bound) alike j k p q)
+        ∙ sym (shortest_is_closed kind (points z) (omega arith) z.bound g (begun z.bound) e j k p q)
+        ∙ lesser_is_left kind (z.bound j k) (by_clock kind (begun z.bound) j k) (g.closed.settled 0 (omega arith) j k p q)

@@ -11,12 +11,13 @@ use Rattle.zones.specs.Zones.{Zone, points}
 use Rattle.zone_cells.specs.Drafts.{largest_listed}
 use Rattle.zone_cells.proofs.Steps.{Good, normal_good, narrow_same, narrow_sized, narrow_still}
 use Rattle.zone_closed_forms.specs.ClosedForms.{ClockRows, closed, narrowed_from, begun}
-use Rattle.zone_closed_forms.specs.Laws.{Listed, NarrowedFormOr}
+use Rattle.zone_cells.specs.Drafts.{PageFormed}
+use Rattle.zone_closed_forms.specs.Laws.{NarrowedFormOr}
 use Rattle.zone_closed_forms.proofs.Greatest.{ClosedBelow, Consistent, no_closed, greatest_normal}
 use Rattle.zone_closed_forms.proofs.Laid.{shortest, shortest_closed, shortest_sized, shortest_is_closed}
 use Rattle.zone_closed_forms.proofs.Narrowing.{Exact, ExactOr, begun_exact, all_exact, exact_greatest}
 
-module _ {B : Type 0} (kind : Kind B) (z : Zone B) (h : Listed kind z) where
+module _ {B : Type 0} (kind : Kind B) (z : Zone B) (h : PageFormed kind z) where
   pub listed_good : Good kind (points z) (2 ^ 22) z.bound
   listed_good = normal_good kind (points z) largest_listed z.bound (omega (arith, h.few)) (omega arith) (omega arith) h.normal.still h.normal.bounds h.small
 

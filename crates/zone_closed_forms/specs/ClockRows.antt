@@ -5,13 +5,14 @@ use Rattle.std.specs.Prelude.{List, [], ◌∷◌, length, drop, slice_index, So
 use Rattle.bounds.specs.Kinds.{Kind}
 use Rattle.nets.specs.Nets.{Arc, Every, Transition}
 use Rattle.zone_walks.specs.Walks.{Matrix, lesser}
-use Rattle.zones.specs.Predecessors.{staying, places_at}
+use Rattle.zones.specs.Predecessors.{staying}
 use Rattle.zones.specs.Zones.{Zone, points}
 use Rattle.zone_cells.specs.Cells.{arc_at}
-use Rattle.zone_closed_forms.specs.ClosedForms.{ClockRows, begun, closed, crossed}
-use Rattle.zone_closed_forms.specs.ClosedForms.{kept_closed, replaced}
+use Rattle.zone_closed_forms.specs.ClosedForms.{ClockRows, begun, crossed, spread, kept_zone}
 use Rattle.zone_closed_forms.specs.ClosedForms.{narrowed_rows, all_narrowed}
-use Rattle.zone_closed_forms.specs.Laws.{Listed, FiredForm}
+use Rattle.zone_closed_forms.specs.ClosedForms.{delayed_rows, delayed_zone, fired_zone}
+use Rattle.zone_cells.specs.Drafts.{PageFormed}
+use Rattle.zone_closed_forms.specs.Laws.{DelayForm, FiringForm}
 
 -- the same rows at so many points
 pub record Alike {B : Type 0} (n : ℕ) (rows other : ClockRows B) : Type 0 where
@@ -51,22 +52,23 @@ pub record ClockRowLaws {B : Type 0} (kind : Kind B) : Type 0 where
   pub alike : (n : ℕ) (x : Matrix B) (arcs : List (Arc B)) (matching : List ℕ)
       (rows other : ClockRows B) → Every (λ d. d < n) matching → Alike n rows other →
       AlikeOr n (all_narrowed kind x arcs matching rows) (all_narrowed kind x arcs matching other)
-  -- rows that are alike at the zone's points have the same bounds, and are those of one predecessor
-  pub bounds : (n : ℕ) (x : Matrix B) (rows other : ClockRows B) (j k : ℕ) → Alike n rows other →
-      j < n → k < n → closed kind x rows j k ≡ closed kind x other j k
-  pub kept_bounds : (n : ℕ) (x : Matrix B) (kept : List ℕ) (rows other : ClockRows B) (j k : ℕ) →
-      Alike n rows other → j < n → k < n →
-      kept_closed kind x kept rows j k ≡ kept_closed kind x kept other j k
-  pub fired : (t : Transition B) (matching : List ℕ) (z : Zone B) (rows other : ClockRows B) →
-      Alike (points z) rows other → FiredForm kind t matching z rows →
-      FiredForm kind t matching z other
-  -- the form of a firing in which every token stays and none is added is the closed form
-  pub stays : (z : Zone B) (rows : ClockRows B) (j k : ℕ) → j < points z → k < points z →
-      replaced kind z.bound (0 ∷ staying [] z) [] rows j k ≡ closed kind z.bound rows j k
-  pub places : (z : Zone B) → places_at (staying [] z) z ≡ z.places
-  -- before anything is narrowed the closed form is the zone itself
-  pub unchanged : (z : Zone B) (j k : ℕ) → Listed kind z → j < points z → k < points z →
-      closed kind z.bound (begun z.bound) j k ≡ z.bound j k
+  -- One form, over rows of its own points, is every zone that can be asked for; the rows need only be
+  -- alike at those points. The page's own zone, with all its tokens:
+  pub whole : (z : Zone B) (own : ClockRows B) (j k : ℕ) → PageFormed kind z →
+      Alike (points z) (begun z.bound) own → j < points z → k < points z →
+      (kept_zone kind z (staying [] z) [] own).bound j k ≡ z.bound j k
+  pub places : (z : Zone B) (own : ClockRows B) →
+      (kept_zone kind z (staying [] z) [] own).places ≡ z.places
+  -- the one before a delay
+  pub delayed : (z : Zone B) (own : ClockRows B) → Alike (points z) (delayed_rows kind z) own →
+      DelayForm kind z (delayed_zone kind z) → DelayForm kind z (kept_zone kind z (staying [] z) [] own)
+  -- the one before a firing
+  pub fired : (t : Transition B) (matching : List ℕ) (z : Zone B) (rows other own : ClockRows B) →
+      Alike (points z) rows other →
+      Alike (points (fired_zone kind t matching z rows))
+      (spread kind (0 ∷ staying matching z) t.inputs other) own →
+      FiringForm kind t matching z (fired_zone kind t matching z rows) →
+      FiringForm kind t matching z (kept_zone kind z (staying matching z) t.inputs own)
   -- a bound is no larger than another where one of the two that it is the lesser of is not
   pub compared : (a b c : B) →
       kind.at_most (lesser kind a b) c ≡ (kind.at_most a c || kind.at_most b c)

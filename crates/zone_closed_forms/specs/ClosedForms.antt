@@ -102,14 +102,17 @@ kept_closed kind x kept rows =
     then lesser kind (x (slice_index kept j) (slice_index kept k)) (by_clock kind rows j k)
     else by_clock kind rows j k)
 
-abbrev pub replaced : {B : Type 0} →
-    Kind B → Matrix B → List ℕ → List (Arc B) → ClockRows B → Matrix B
-replaced kind x kept arcs rows = kept_closed kind x kept (spread kind kept arcs rows)
+-- the tokens that are kept and then a token for each arc, with rows over all of them
+abbrev pub kept_zone : {B : Type 0} →
+    Kind B → Zone B → List ℕ → List (Arc B) → ClockRows B → Zone B
+kept_zone kind z kept arcs rows =
+    record {
+      places = places_at kept z ++ map (λ a. a.place) arcs;
+      bound = kept_closed kind z.bound (0 ∷ kept) rows;
+    }
 
 abbrev pub fired_zone : {B : Type 0} →
     Kind B → Transition B → List ℕ → Zone B → ClockRows B → Zone B
 fired_zone kind t matching z rows =
-    record {
-      places = places_at (staying matching z) z ++ map (λ a. a.place) t.inputs;
-      bound = replaced kind z.bound (0 ∷ staying matching z) t.inputs rows;
-    }
+    let kept : List ℕ = staying matching z in
+    kept_zone kind z kept t.inputs (spread kind (0 ∷ kept) t.inputs rows)

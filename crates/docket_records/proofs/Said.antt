@@ -1,4 +1,4 @@
--- What the tests and the reads of a zone record come to. Assumes nothing.
+-- What the tests and the reads of a zone record come to.
 use Rattle.std.proofs.Common.{◌≡◌, ℕ, ◌+◌, ◌*◌, not, ◌||◌, eqb, List, sym, ap, ◌∙◌, arith}
 use Rattle.net_records.proofs.Fields.{field_join}
 use Rattle.net_records.specs.Bits.{field}

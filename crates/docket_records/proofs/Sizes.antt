@@ -1,4 +1,4 @@
--- The sizes of the zone that a record says: of its bounds, and of its list of places. Assumes nothing.
+-- The sizes of the zone that a record says: of its bounds, and of its list of places.
 use Rattle.std.proofs.Common.{◌≡◌, ℕ, ◌+◌, ◌<◌, ◌≤◌, min, Bool, true, false, cond, ◌&&◌, eqb, ltb, leb, List, length, Some, None, Option, IfSome, ℤ, pos, ◌-ℤ◌, nat_abs, sym, ap, ◌∙◌, subst, ⊎_elim, arith}
 use borrow.Author.Differences.{ints}
 use Rattle.std.proofs.lemmas.List.FromFn.{length-map-range_with_len}

@@ -1,4 +1,4 @@
--- Fields of bits by the numbers of the bytes around them. Assumes nothing.
+-- Fields of bits by the numbers of the bytes around them.
 use Rattle.std.proofs.Common.{◌≡◌, ℕ, ◌+◌, ◌-◌, ◌*◌, ◌/◌, ◌%◌, ◌^◌, ◌<◌, ◌≤◌, List, get_or, sym, ap, ◌∙◌, add-zero, mul_assoc, add-mul, zero-add, arith}
 use Rattle.std.proofs.lemmas.Nat.{pow-add, shr_high, mod_low}
 use Rattle.net_records.proofs.Fields.{byte_field, field_join, field_below}

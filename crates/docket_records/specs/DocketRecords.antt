@@ -1,10 +1,9 @@
 -- The docket header and the initial tokens that bytes say, and what is wrong with bytes that say none.
 --     header    initial tokens 4 bits, listed zones 6, spare 22; the most significant bit first
 --     token     place 6 bits, age 15, spare 3
--- Assumes nothing.
 use Rattle.std.specs.Prelude.{ℕ, Bool, not, List, Result, ◌==◌}
 use Rattle.net_records.specs.Bits.{field}
-use Rattle.docket_records.specs.Records.{read_as}
+use Rattle.docket_records.specs.Records.{header_size, read_as, token_size}
 use Rattle.docket_records.specs.declared.docket_header.DocketHeader.{DocketHeader}
 use Rattle.docket_records.specs.declared.fault.EntryRefusal.{EntryRefusal}
 use Rattle.docket_records.specs.declared.token.InitialToken.{InitialToken}
@@ -22,7 +21,7 @@ unfoldable pub token_spare : List ℕ → Bool
 token_spare bytes = not (field bytes 21 3 == 0)
 
 abbrev pub docket_header : List ℕ → Result DocketHeader EntryRefusal
-docket_header bytes = read_as 4 header_spare docket_header_of bytes
+docket_header bytes = read_as header_size header_spare docket_header_of bytes
 
 abbrev pub initial_token : List ℕ → Result InitialToken EntryRefusal
-initial_token bytes = read_as 3 token_spare token_of bytes
+initial_token bytes = read_as token_size token_spare token_of bytes

@@ -1,5 +1,5 @@
-pub mod DocketRecords
-pub mod Records
 pub mod Refusals
+pub mod Records
+pub mod DocketRecords
 pub mod ZoneRecords
 pub mod Vouchers

@@ -1,9 +1,12 @@
--- The number and the text of each refusal of a record after the net. Assumes nothing.
+-- The number and the text of each refusal of a record after the net.
 use Rattle.std.specs.Prelude.{ℕ, List, codes}
 use Rattle.net_records.specs.Refusals.{located}
 use Rattle.net_records.specs.declared.fault.Fault.{Fault}
 use Rattle.docket_records.specs.declared.fault.EntryRefusal.{EntryRefusal}
-use Rattle.docket_records.specs.declared.fault.EntryRefusal.TheVariants.{WrongLength, NotZero, TooMany, NoSuchPlace, MarkUnderPlain, Inconsistent}
+use Rattle.docket_records.specs.declared.fault.EntryRefusal.TheVariants.{WrongLength, NotZero}
+use Rattle.docket_records.specs.declared.fault.EntryRefusal.TheVariants.{TooMany, NoSuchPlace}
+use Rattle.docket_records.specs.declared.fault.EntryRefusal.TheVariants.{MarkUnderPlain}
+use Rattle.docket_records.specs.declared.fault.EntryRefusal.TheVariants.{Inconsistent}
 
 abbrev pub entry_number_of : EntryRefusal → ℕ
 entry_number_of WrongLength = 20

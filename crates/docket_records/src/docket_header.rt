@@ -1,10 +1,12 @@
-// The docket header: how many initial tokens and listed zones follow.
+//! The docket header: how many initial tokens and listed zones follow.
 ghost use Rattle.docket_records.specs.DocketRecords.{docket_header_of, header_spare};
+ghost use Rattle.docket_records.specs.Records.{header_size};
 ghost use Rattle.std.proofs.Common.{arith};
 
 use crate::bits::bits;
 use crate::record::Record;
 
+/// What the docket header says.
 #[derive(Clone, Copy, PartialEq, Eq, Debug)]
 pub struct DocketHeader {
     pub initial: u8,
@@ -13,7 +15,7 @@ pub struct DocketHeader {
 
 #[tactic(auto, unfolding(crate::specs::DocketRecords::docket_header_of, crate::specs::DocketRecords::header_spare))]
 impl Record for DocketHeader {
-    ghost SIZE = { 4 };
+    ghost SIZE = { header_size };
 
     ghost some_bytes = { omega arith };
 

@@ -1,4 +1,4 @@
-// Faults of the records after the net: what is wrong, and in which record.
+//! Faults of the records after the net: what is wrong, and in which record.
 ghost use Rattle.docket_records.specs.Refusals.{entry_number_of, entry_text};
 ghost use Rattle.docket_records.specs.declared.fault.EntryRefusal.TheVariants.{WrongLength};
 ghost use Rattle.std.specs.Prelude.{Some, refl};
@@ -6,16 +6,16 @@ ghost use Rattle.std.specs.Prelude.{Some, refl};
 use net_records::fault::{Fault, Refusal};
 use std::fmt;
 
-// By number; the lowest number that holds counts.
+/// By number; the lowest number that holds counts.
 #[derive(Clone, Copy, PartialEq, Eq, Debug)]
 pub enum EntryRefusal {
     WrongLength = 20,
-    // a spare or unused field, or a mark on no limit
+    /// a spare or unused field, or a mark on no limit
     NotZero = 21,
     TooMany = 22,
     NoSuchPlace = 23,
     MarkUnderPlain = 24,
-    // some closed walk sums below zero
+    /// some closed walk sums below zero
     Inconsistent = 25,
 }
 
@@ -52,5 +52,5 @@ impl fmt::Display for EntryRefusal {
     }
 }
 
-// Records are counted from 0 through the whole file.
+/// Records are counted from 0 through the whole file.
 pub type EntryFault = Fault<EntryRefusal>;

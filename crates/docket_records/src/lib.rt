@@ -1,4 +1,4 @@
-// The records after the net, in borrowed bytes: what they say, and what is wrong with them.
+//! The records after the net, in borrowed bytes: what they say, and what is wrong with them.
 #![tactic(auto)]
 
 mod bits;
@@ -9,4 +9,3 @@ pub mod record_bound;
 pub mod token;
 pub mod voucher;
 pub mod zone;
-pub mod zone_test;

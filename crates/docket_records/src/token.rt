@@ -1,10 +1,12 @@
-// An initial token: its place and its age.
+//! An initial token: its place and its age.
 ghost use Rattle.docket_records.specs.DocketRecords.{token_of, token_spare};
+ghost use Rattle.docket_records.specs.Records.{token_size};
 ghost use Rattle.std.proofs.Common.{arith};
 
 use crate::bits::bits;
 use crate::record::Record;
 
+/// What an initial token's record says.
 #[derive(Clone, Copy, PartialEq, Eq, Debug, Default)]
 pub struct InitialToken {
     pub place: u8,
@@ -13,7 +15,7 @@ pub struct InitialToken {
 
 #[tactic(auto, unfolding(crate::specs::DocketRecords::token_of, crate::specs::DocketRecords::token_spare))]
 impl Record for InitialToken {
-    ghost SIZE = { 3 };
+    ghost SIZE = { token_size };
 
     ghost some_bytes = { omega arith };
 

@@ -1,21 +1,23 @@
-// A voucher: that an item is void, or which listed zone vouches for it and through which partners.
-ghost use Rattle.docket_records.specs.Vouchers.{partner_at, some_set, unused_set, voucher_of, voucher_spare};
+//! A voucher: that an item is void, or which listed zone vouches for it and through which partners.
+ghost use Rattle.docket_records.specs.Records.{voucher_size};
+ghost use Rattle.docket_records.specs.Vouchers.{partner_at, some_set, unused_set, voucher_of};
+ghost use Rattle.docket_records.specs.Vouchers.{voucher_spare};
 ghost use Rattle.std.specs.Prelude.{◌≡◌};
 ghost use Rattle.std.proofs.Common.{arith};
 
 use crate::bits::bits;
 use crate::record::Record;
 
-// The fields as they stand and not an enum: those that a voucher does not use are tested too.
+/// The fields as they stand and not an enum: those that a voucher does not use are tested too.
 #[derive(Clone, Copy, PartialEq, Eq, Debug)]
 pub struct Voucher {
     pub void: bool,
     pub zone: u8,
-    // for each token of the listed zone a token of the item, both numbered from 1
+    /// for each token of the listed zone a token of the item, both numbered from 1
     pub partners: [u8; 8],
 }
 
-// The partner of a token of the listed zone, here counted from 0.
+/// The partner of a token of the listed zone, here counted from 0.
 fn partner(bytes: &[u8], i: u8) -> u8
     ensures { result ≡ partner_at bytes.now i }
 {
@@ -24,7 +26,7 @@ fn partner(bytes: &[u8], i: u8) -> u8
 
 #[tactic(auto, unfolding(crate::specs::Vouchers::voucher_of, crate::specs::Vouchers::voucher_spare))]
 impl Record for Voucher {
-    ghost SIZE = { 6 };
+    ghost SIZE = { voucher_size };
 
     ghost some_bytes = { omega arith };
 
@@ -64,8 +66,8 @@ fn some_set(numbers: &[u8]) -> bool
 }
 
 impl Voucher {
-    // Whether a field that it does not use is not zero. Its listed zone has so many tokens; one for a zone outside the list uses all
-    // eight partners.
+    /// Whether a field that it does not use is not zero. Its listed zone has so many tokens; one for a
+    /// zone outside the list uses all eight partners.
     pub fn unused_set(&self, tokens: u8) -> bool
         ensures { result ≡ unused_set self.now tokens }
     {

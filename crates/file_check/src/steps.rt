@@ -16,7 +16,7 @@ use docket_records::docket_header::DocketHeader;
 use docket_records::record::Record;
 use docket_records::token::InitialToken;
 use docket_records::voucher::Voucher;
-use docket_records::zone_test::ZONE_SIZE;
+use docket_records::zone::ZONE_SIZE;
 use docket_refusals::CallRefusal;
 use file_rules::{FileFault, FileRefusal};
 use net_records::packed::PackedNet;

@@ -1,6 +1,6 @@
 use Rattle.std.proofs.Common.{rules, tests}
 use Rattle.docket_records.specs.ZoneRecords.{some_in_row, apart}
-use Rattle.docket_records.proofs.zone_test.some_in_row.Goals as goal
+use Rattle.docket_records.proofs.zone.some_in_row.Goals as goal
 
 pub returns : goal.returns
 unfolding some_in_row

@@ -1,8 +1,8 @@
--- Rounds of elimination over a list of pivots, one after the other. Assumes nothing.
-use Rattle.std.proofs.Common.{◌≡◌, ℕ, zero, suc, ◌+◌, ◌*◌, ◌^◌, ◌<◌, ◌≤◌, Bool, true, false, not, ◌||◌, eqb, List, [], ◌∷◌, length, get_or, take, sym, refl, ap, ◌∙◌, subst, ⊎_elim, arith}
+-- Rounds of elimination over a list of pivots, one after the other.
+use Rattle.std.proofs.Common.{◌≡◌, ℕ, zero, suc, ◌+◌, ◌*◌, ◌^◌, ◌<◌, ◌≤◌, Bool, true, false, not, ◌||◌, eqb, List, [], ◌∷◌, ◌++◌, length, get_or, take, drop, sym, refl, ap, ◌∙◌, subst, ⊎_elim, arith}
 use native.Mathlib.Nat.{pow-le-pow_right}
-use Rattle.std.proofs.lemmas.List.{take_all}
-use Rattle.std.proofs.lemmas.Bool.{cases_Bool, or_right, false≢true}
+use Rattle.std.proofs.lemmas.List.{append-nil, append_assoc, take-append-drop, take_all, take_more}
+use Rattle.std.proofs.lemmas.Bool.{cases_Bool, cond-false, cond-true, or_right, false≢true}
 use Rattle.bounds.specs.Kinds.{Kind, largest_size}
 use Rattle.zone_walks.specs.Walks.{Inside}
 use Rattle.zone_walks.specs.NormalForms.{most_points, largest_entry}
@@ -10,7 +10,7 @@ use Rattle.zone_walks.proofs.Closed.{Same, relaxed}
 use Rattle.zone_walks.proofs.Rounds.{Progress, progress_none, progress_round, progress_sized, progress_negative, progress_normal}
 use Rattle.zones.specs.Predecessors.{among}
 use Rattle.zone_cells.specs.Cells.{in_draft, relaxed_cells}
-use Rattle.zone_cells.specs.Settling.{Ready, Settles}
+use Rattle.zone_cells.specs.Settling.{Ready, Settles, eliminated}
 use Rattle.zone_cells.proofs.Grid.{length-relaxed}
 use Rattle.zone_cells.proofs.Operations.{relaxed_is}
 
@@ -22,6 +22,7 @@ pub record Done {B : Type 0} (kind : Kind B) (points : ℕ) (pivots : List ℕ) 
   pub first : (v : ℕ) → v < points → among v (take r pivots) ≡ true → done v ≡ true
 
 pub record SettledSoFar {B : Type 0} (kind : Kind B) (points : ℕ) (pivots : List ℕ) (before : List B) (r : ℕ) (after : List B) : Type 0 where
+  pub turned : (later : List ℕ) → eliminated kind points (take r pivots ++ later) before ≡ eliminated kind points later after
   pub kept : length after ≡ length before
   pub so_far : Ready kind points pivots before → Done kind points pivots before r after
 
@@ -58,6 +59,7 @@ module _ {B : Type 0} (kind : Kind B) (points : ℕ) (pivots : List ℕ) (before
   pub settled_none : SettledSoFar kind points pivots before 0 before
   settled_none =
       record {
+        turned = λ later. refl;
         kept = refl;
         so_far = λ ready.
             record {
@@ -69,10 +71,18 @@ module _ {B : Type 0} (kind : Kind B) (points : ℕ) (pivots : List ℕ) (before
       }
 
   module _ (r : ℕ) (cells : List B) (here : r < length pivots) (so_far : SettledSoFar kind points pivots before r cells) where
+    -- the round's pivot comes first of those that are left
+    this_round : (later : List ℕ) → eliminated kind points (take (r + 1) pivots ++ later) before ≡ eliminated kind points (get_or pivots r 0 ∷ later) cells
+    this_round later =
+        ap (λ ps. eliminated kind points (ps ++ later) before) (take_more pivots r 0 here)
+        ∙ ap (λ ps. eliminated kind points ps before) (append_assoc (take r pivots) (get_or pivots r 0 ∷ []) later)
+        ∙ so_far.turned (get_or pivots r 0 ∷ later)
+
     pub settled_more : (next : List B) → next ≡ relaxed_cells kind points (get_or pivots r 0) cells → kind.at_most kind.zero (in_draft kind cells (get_or pivots r 0) (get_or pivots r 0)) ≡ true → SettledSoFar kind points pivots before (r + 1) next
     settled_more next is good =
         let p = get_or pivots r 0 in
         record {
+          turned = λ later. this_round later ∙ cond-true _ _ _ good ∙ ap (eliminated kind points later) (sym is);
           kept = ap length is ∙ length-relaxed kind points p cells ∙ so_far.kept;
           so_far = λ ready.
               let d = so_far.so_far ready in
@@ -95,6 +105,7 @@ module _ {B : Type 0} (kind : Kind B) (points : ℕ) (pivots : List ℕ) (before
     pub settled_not : (next : List B) → next ≡ cells → kind.at_most kind.zero (in_draft kind cells (get_or pivots r 0) (get_or pivots r 0)) ≡ false → Settles kind points pivots before next false
     settled_not next is bad =
         record {
+          run = ap (λ c. (c, false)) is ∙ sym (ap (λ ps. eliminated kind points ps before) (sym (take-append-drop (r + 1) pivots)) ∙ this_round (drop (r + 1) pivots) ∙ cond-false _ _ _ bad);
           kept = ap length is ∙ so_far.kept;
           answered = λ ready.
               let d = so_far.so_far ready in
@@ -104,6 +115,7 @@ module _ {B : Type 0} (kind : Kind B) (points : ℕ) (pivots : List ℕ) (before
   pub settled_all : (r : ℕ) (cells : List B) → r ≡ length pivots → SettledSoFar kind points pivots before r cells → Settles kind points pivots before cells true
   settled_all r cells end so_far =
       record {
+        run = sym (ap (λ ps. eliminated kind points ps before) (sym (append-nil (take r pivots) ∙ take_all r pivots (omega (arith, end)))) ∙ so_far.turned []);
         kept = so_far.kept;
         answered = λ ready.
             let d = so_far.so_far ready in

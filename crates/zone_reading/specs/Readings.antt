@@ -1,11 +1,12 @@
 -- What reading a zone record into a draft answers, and what the draft then holds.
 --     before, after    the cells of the draft
--- A draft has 169 cells. In cells of any other number the refusals by the bytes alone are the same, and a record without such
--- a fault gets its places or the refusal of an inconsistent zone, with no promise which. Assumes nothing.
-use Rattle.std.specs.Prelude.{◌≡◌, ℕ, List, length, Some, None, Ok, Err, Result}
+-- A draft is whole where it has 169 cells: then what is left is the zone's normal form, or the zone is inconsistent. Of any
+-- cells, more or fewer, the answer and what each then holds are those of the elimination over the cells as they are.
+use Rattle.std.specs.Prelude.{◌≡◌, ℕ, List, Bool, true, false, length, Some, None, Ok, Err, Result}
 use Rattle.bounds.specs.Kinds.{Kind}
 use Rattle.zones.specs.Zones.{Zone, Inconsistent}
-use Rattle.zone_cells.specs.Loading.{DraftFormed}
+use Rattle.zone_cells.specs.Loading.{DraftFormed, zone_eliminated}
+use Rattle.zone_cells.specs.Sizes.{draft_cells}
 use Rattle.docket_records.specs.ZoneRecords.{zone_fault, zone_of}
 use Rattle.arrayvec.specs.ArrayVec.{ArrayVec}
 use Rattle.docket_records.specs.declared.fault.EntryRefusal.{EntryRefusal}
@@ -26,7 +27,20 @@ abbrev pub RecordSettled : {B : Type 0} → Kind B → Zone B → List B → Res
 RecordSettled kind z after (Ok tokens) = DraftFormed kind z after
 RecordSettled kind z after (Err refusal) = Inconsistent kind z
 
+-- the answer that goes with what the elimination said
+abbrev pub RecordAnswer : {B : Type 0} → Zone B → Bool → Result (ArrayVec ℕ) EntryRefusal → Type 0
+RecordAnswer z true (Ok tokens) = tokens.items ≡ z.places
+RecordAnswer z true (Err refusal) = ⊥
+RecordAnswer z false (Ok tokens) = ⊥
+RecordAnswer z false (Err refusal) = refusal ≡ RefusedInconsistent
+
+-- the bounds of z are written over the cells, however many there are, and brought to normal form round by round
+pub record RecordRun {B : Type 0} (kind : Kind B) (z : Zone B) (before after : List B) (result : Result (ArrayVec ℕ) EntryRefusal) : Type 0 where
+  pub cells : after ≡ (zone_eliminated kind z before).0
+  pub answer : RecordAnswer z (zone_eliminated kind z before).1 result
+
 pub record Read {B : Type 0} (kind : Kind B) (net_places : ℕ) (bytes : List ℕ) (before after : List B) (result : Result (ArrayVec ℕ) EntryRefusal) : Type 0 where
   pub refused : (refusal : EntryRefusal) → zone_fault kind.marks net_places bytes ≡ Some refusal → Refused refusal before after result
+  pub run : zone_fault kind.marks net_places bytes ≡ None → RecordRun kind (zone_of kind bytes) before after result
   pub taken : zone_fault kind.marks net_places bytes ≡ None → RecordTaken (zone_of kind bytes) result
-  pub settled : zone_fault kind.marks net_places bytes ≡ None → length before ≡ 169 → RecordSettled kind (zone_of kind bytes) after result
+  pub settled : zone_fault kind.marks net_places bytes ≡ None → length before ≡ draft_cells → RecordSettled kind (zone_of kind bytes) after result

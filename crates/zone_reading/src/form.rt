@@ -1,6 +1,7 @@
 // A record's zone brought to normal form in a draft, and its tokens.
 ghost use Rattle.std.specs.Prelude.{◌≡◌, ◌+◌, ◌≤◌, is_ok, map, length, take};
-ghost use Rattle.zone_cells.specs.Loading.{DraftFormedOr, nine_points};
+ghost use Rattle.zone_cells.specs.Loading.{DraftFormedOr, nine_points, zone_eliminated};
+ghost use Rattle.zone_cells.specs.Sizes.{draft_cells};
 ghost use Rattle.zone_cells.specs.Settling.{Settles};
 ghost use Rattle.docket_records.specs.ZoneRecords.{bound_at, tokens_of, place_at, zone_of};
 ghost use Rattle.std.specs.List.{range_with_len};
@@ -49,7 +50,8 @@ impl<'a> TestedRecord<'a> {
 
     pub(crate) fn form<B: Bound>(&self, cells: &mut [B]) -> Result<(), Inconsistent>
         ensures kept { length cells.new ≡ length cells.old }
-        ensures formed { length cells.old ≡ 169 → DraftFormedOr B.Bound.kind (zone_of B.Bound.kind self.now.record.bytes.now) cells.new (is_ok result) }
+        ensures run { (cells.new, is_ok result) ≡ zone_eliminated B.Bound.kind (zone_of B.Bound.kind self.now.record.bytes.now) cells.old }
+        ensures formed { length cells.old ≡ draft_cells → DraftFormedOr B.Bound.kind (zone_of B.Bound.kind self.now.record.bytes.now) cells.new (is_ok result) }
     {
         let tokens = self.record.tokens();
         fill(cells, tokens + 1, |j, i| self.counted_bound(j, i));

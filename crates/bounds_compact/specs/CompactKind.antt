@@ -1,7 +1,7 @@
 -- What compact bounds mean: one integer, the bound's place in the order, or the largest 64-bit integer for no limit.
 --     half, even     of a place: the number, and whether it is strict
--- Assumes nothing.
-use Rattle.std.specs.Prelude.{◌≡◌, ◌-◌, ◌%◌, ◌^◌, ◌≤◌, Bool, true, false, cond, ℤ, pos, negsuc, ◌==◌, unsigned_abs, refl}
+use Rattle.std.specs.Prelude.{◌≡◌, ◌-◌, ◌%◌, ◌^◌, ◌≤◌, Bool, true, false, ℤ, pos, negsuc, ◌==◌}
+use Rattle.std.specs.Prelude.{unsigned_abs, refl, IsTrue, IsFalse, if◌then◌else◌}
 use Rattle.std.proofs.Common.{arith, ap, ◌∙◌}
 use Rattle.std.proofs.lemmas.Int.{ints}
 use Rattle.std.specs.Int.Signed.{shr_z}
@@ -24,7 +24,7 @@ is_no_limit (pos n) = n == 2 ^ 63 - 1
 is_no_limit (negsuc n) = false
 
 abbrev pub compact_limit : ℤ → Limit
-compact_limit z = cond (is_no_limit z) unlimited (number (half z) (even z))
+compact_limit z = if is_no_limit z then unlimited else number (half z) (even z)
 
 abbrev pub compact_of : Limit → ℤ
 compact_of (number c s) = place c s
@@ -54,18 +54,19 @@ even_place c true = eq-eqb (unsigned_abs (place c true) % 2) 0 (omega (arith, in
 even_place c false = ne_eqb (unsigned_abs (place c false) % 2) 0 (λ e. omega (arith, ints))
 
 -- ---- each integer stands for one limit, and each limit that is asked for has its integer
-largest_is : (z : ℤ) → is_no_limit z ≡ true → pos (2 ^ 63 - 1) ≡ z
+largest_is : (z : ℤ) → IsTrue (is_no_limit z) → pos (2 ^ 63 - 1) ≡ z
 largest_is (pos n) e = omega (arith, ints, eqb-true n (2 ^ 63 - 1) e)
 largest_is (negsuc n) e = absurd (false≢true e)
 
 pub compact_back : (z : ℤ) → compact_of (compact_limit z) ≡ z
 compact_back z = by_test (is_no_limit z) refl
   where
-    by_test : (t : Bool) → is_no_limit z ≡ t → compact_of (cond t unlimited (number (half z) (even z))) ≡ z
+    by_test : (t : Bool) → is_no_limit z ≡ t →
+        compact_of (if t then unlimited else number (half z) (even z)) ≡ z
     by_test true e = largest_is z e
     by_test false e = place-half z
 
-small_is_number : (z : ℤ) → unsigned_abs z ≤ 2 ^ 42 → is_no_limit z ≡ false
+small_is_number : (z : ℤ) → unsigned_abs z ≤ 2 ^ 42 → IsFalse (is_no_limit z)
 small_is_number (pos n) h = ne_eqb n (2 ^ 63 - 1) (λ e. omega arith)
 small_is_number (negsuc n) h = refl
 
@@ -75,7 +76,7 @@ small_place c false h = omega (arith, ints)
 
 pub compact_reads : (l : Limit) → Held true l → compact_limit (compact_of l) ≡ l
 compact_reads (number c s) h =
-    ap (λ t. cond t unlimited (number (half (place c s)) (even (place c s)))) (small_is_number (place c s) (small_place c s h.small))
+    ap (λ t. (if t then unlimited else number (half (place c s)) (even (place c s)))) (small_is_number (place c s) (small_place c s h.small))
     ∙ ap (λ d. number d (even (place c s))) (half_place c s)
     ∙ ap (number c) (even_place c s)
 compact_reads unlimited h = refl

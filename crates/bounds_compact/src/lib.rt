@@ -1,4 +1,4 @@
-// Compact bounds: a whole number, perhaps strict, or no limit, in one 64-bit integer.
+//! Compact bounds: a whole number, perhaps strict, or no limit, in one 64-bit integer.
 #![tactic(auto)]
 
 ghost use Rattle.bounds.specs.Limits.{capped};
@@ -10,17 +10,17 @@ ghost use Rattle.std.specs.Prelude.{◌≡◌, Some};
 use bounds::{Bound, LARGEST_SIZE, MakeError, MarkedNumber, NO_LIMIT_TEXT, within_limits};
 use std::fmt;
 
-// No limit lies above every number.
+/// No limit lies above every number.
 const NO_LIMIT: i64 = i64::MAX;
 
-// 2c stands for c strict, and 2c + 1 for c, so bounds compare as integers do.
+/// 2c stands for c strict, and 2c + 1 for c, so bounds compare as integers do.
 #[derive(Clone, Copy, PartialEq, Eq, Debug)]
 pub struct CompactBound {
     raw: i64,
 }
 
 impl CompactBound {
-    // The bound of a number, or no limit where the number is too large.
+    /// The bound of a number, or no limit where the number is too large.
     fn of_number(limit: MarkedNumber) -> CompactBound
         ensures { result.raw ≡ compact_of (capped limit.number limit.strict) }
     {
@@ -31,7 +31,7 @@ impl CompactBound {
         CompactBound { raw }
     }
 
-    // The number with its mark, unless there is no limit.
+    /// The number with its mark, unless there is no limit.
     fn limit(self) -> Option<MarkedNumber>
         ensures { compact_limit self.raw ≡ marked_limit result }
     {
@@ -57,7 +57,7 @@ impl Bound for CompactBound {
         Ok(CompactBound::of_number(MarkedNumber { number, strict }))
     }
 
-    // Two tests in a row compile to less than one match on the pair.
+    /// Two tests in a row compile to less than one match on the pair.
     fn sum(self, other: CompactBound) -> CompactBound {
         let Some(a) = self.limit() else {
             return CompactBound::no_limit();

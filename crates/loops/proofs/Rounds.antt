@@ -1,4 +1,4 @@
--- Adding up a loop line by line, and what the sum says of its timings. Assumes nothing.
+-- Adding up a loop line by line, and what the sum says of its timings.
 use Rattle.std.proofs.Common.{◌≡◌, ℕ, ◌+◌, ◌<◌, ◌≤◌, Bool, true, false, cond, eqb, ◌⊎◌, List, [], ◌∷◌, ◌++◌, map, length, ℤ, pos, ◌+ℤ◌, Ok, Err, Result, sym, refl, ap, ◌∙◌, inl, inr, ⊎_elim, append_assoc, arith}
 use lib.IntN.{+ℤ_assoc, +ℤ_idl, +ℤ_idr}
 use mathlib.Core.List.{map-append}

@@ -1,4 +1,4 @@
--- Steps of the loops that look for a line feed and read digits. Assumes nothing.
+-- Steps of the loops that look for a line feed and read digits.
 use Rattle.std.proofs.Common.{◌≡◌, ℕ, suc, ◌+◌, ◌-◌, ◌*◌, ◌<◌, ◌≤◌, min, Bool, true, false, not, cond, eqb, ltb, ◌==◌, List, [], ◌∷◌, length, get_or, take, drop, Some, None, Ok, codes, Option, sym, refl, ap, ◌∙◌, ⊎_elim, add-one, one-add, arith}
 use Rattle.std.proofs.lemmas.List.{drop_more, drop_all, take_all}
 use Rattle.std.proofs.lemmas.Slice.Eq.{bytes_eq-Decides}

@@ -1,4 +1,4 @@
--- Differences that meet a loop whose bounds do not add up to less than zero. Assumes nothing.
+-- Differences that meet a loop whose bounds do not add up to less than zero.
 use Rattle.std.proofs.Common.{◌≡◌, ℕ, ◌+◌, ◌*◌, ◌<◌, ◌≤◌, Bool, true, false, cond, not, ◌&&◌, ◌||◌, eqb, leb, ◌⊎◌, List, [], ◌∷◌, ◌++◌, map, length, ℤ, pos, ◌+ℤ◌, ◌-ℤ◌, ◌*ℤ◌, neg_ℤ, nat_abs, Some, None, Ok, Err, codes, Option, Result, sym, refl, ap, ◌∙◌, inl, inr, ⊎_elim, mul-le-mul_left, mul-add, arith}
 use borrow.Author.Differences.{ints, up, down}
 use lib.IntN.{+ℤ_assoc, +ℤ_idl, +ℤ_idr}
@@ -6,8 +6,6 @@ use lib.Signed.{le_z}
 use Rattle.std.proofs.lemmas.List.{append-nil, nil_from_length}
 use Rattle.std.proofs.lemmas.Bool.{le-leb, leb-true, cond-true, true≢false, false≢true}
 use Rattle.std.specs.Str.{bytes_eq}
-use Rattle.bounds.specs.Codings.{either_marked}
-use Rattle.bounds.specs.Limits.{scaled_sum}
 use Rattle.std.proofs.Math.Bool.{or-false, or_assoc}
 use Rattle.bounds.specs.Kinds.{Kind, Named, largest_number, largest_size, number_allows, place}
 use Rattle.bounds.specs.declared.made.MakeError.TheVariants.{OutsideLimits, MarkNotTaken}
@@ -18,6 +16,18 @@ use Rattle.loops.specs.Readings.{line_bound, marked_line_bound, number_bound, li
 use Rattle.loops.specs.Loops.{total_after, total, added, AllAllowed, Meets, Summed, most_lines}
 use Rattle.loops.proofs.Rounds.{Progress, none_meets}
 
+-- ---- of marks and of numbers counted on a grid
+either_marked : (marks s t : Bool) → (s ≡ true → marks ≡ true) → (t ≡ true → marks ≡ true) → (s || t) ≡ true → marks ≡ true
+either_marked marks true t p q e = p refl
+either_marked marks false t p q e = q e
+
+scaled_sum : (k : ℕ) (c d : ℤ) → pos k *ℤ (c +ℤ d) ≡ pos k *ℤ c +ℤ pos k *ℤ d
+scaled_sum k c d =
+    let e : up (c +ℤ d) + down c + down d ≡ down (c +ℤ d) + up c + up d = omega (arith, ints) in
+    let f : k * (up (c +ℤ d) + down c + down d) ≡ k * (down (c +ℤ d) + up c + up d) = ap (λ n. k * n) e in
+    omega (arith, ints, f, mul-add k (up (c +ℤ d) + down c) (down d), mul-add k (up (c +ℤ d)) (down c), mul-add k (down (c +ℤ d) + up c) (up d), mul-add k (down (c +ℤ d)) (up c))
+
+-- ---- the bounds that lines say
 -- a bound that a line can say: that of a small number, or no limit
 pub data Said {B : Type 0} (kind : Kind B) (b : B) : Type 0 where
   numbered : (c : ℤ) (s : Bool) → nat_abs c ≤ largest_number → (s ≡ true → kind.marks ≡ true) → b ≡ kind.number c s → Said kind b

@@ -1,8 +1,8 @@
 -- A closed loop of timing constraints: its bounds limit differences that add up to 0 on the way round.
 --     meets       differences, one for each bound, that the bounds allow on grid k and that add up to 0
 --     verdict     the sum of the bounds, and whether any differences on any grid meet them
--- Assumes nothing.
-use Rattle.std.specs.Prelude.{◌≡◌, ℕ, ◌+◌, ◌^◌, ◌<◌, ◌≤◌, true, false, ◌⊎◌, List, [], ◌∷◌, ◌++◌, map, length, ℤ, pos, ◌+ℤ◌, Ok, Err, Result}
+use Rattle.std.specs.Prelude.{◌≡◌, ℕ, ◌+◌, ◌^◌, ◌<◌, ◌≤◌, ◌⊎◌, List, [], ◌∷◌, ◌++◌, map, length, ℤ}
+use Rattle.std.specs.Prelude.{pos, ◌+ℤ◌, Ok, Err, Result, IsTrue, IsFalse}
 use Rattle.bounds.specs.Kinds.{Kind}
 use Rattle.loops.specs.Lines.{lines}
 use Rattle.loops.specs.Readings.{line_bound}
@@ -45,7 +45,7 @@ abbrev pub AllAllowed : {B : Type 0} → Kind B → ℕ → List B → List ℤ 
 AllAllowed kind k [] [] = Unit {0}
 AllAllowed kind k [] (d ∷ ds) = ⊥
 AllAllowed kind k (b ∷ bs) [] = ⊥
-AllAllowed kind k (b ∷ bs) (d ∷ ds) = (kind.allows k b d ≡ true) × AllAllowed kind k bs ds
+AllAllowed kind k (b ∷ bs) (d ∷ ds) = IsTrue (kind.allows k b d) × AllAllowed kind k bs ds
 
 pub record Meets {B : Type 0} (kind : Kind B) (k : ℕ) (bs : List B) (ds : List ℤ) : Type 0 where
   pub grid : 1 ≤ k
@@ -58,8 +58,8 @@ pub record Summed {B : Type 0} (kind : Kind B) (text : List ℕ) (v : Verdict B)
   pub said : map (line_bound kind) (lines text) ≡ map Ok bounds
   pub few : length bounds ≤ most_lines
   pub sum : v.sum ≡ total kind bounds
-  pub impossible : v.possible ≡ false → (k : ℕ) (ds : List ℤ) → Meets kind k bounds ds → ⊥
-  pub possible : v.possible ≡ true → (k : ℕ) × (ds : List ℤ) × Meets kind k bounds ds
+  pub impossible : IsFalse v.possible → (k : ℕ) (ds : List ℤ) → Meets kind k bounds ds → ⊥
+  pub possible : IsTrue v.possible → (k : ℕ) × (ds : List ℤ) × Meets kind k bounds ds
 
 -- the lines before the named one say bounds, and that one is at fault
 pub record Faulty {B : Type 0} (kind : Kind B) (text : List ℕ) (bad : BadLine) : Type 0 where
@@ -70,7 +70,8 @@ pub record Faulty {B : Type 0} (kind : Kind B) (text : List ℕ) (bad : BadLine)
   pub number : bad.line ≡ length before + 1
   pub bounds : List B
   pub said : map (line_bound kind) before ≡ map Ok bounds
-  pub fault : ((length before < most_lines) × (line_bound kind at ≡ Err bad.fault)) ⊎ ((length before ≡ most_lines) × (bad.fault ≡ TooManyLines))
+  pub fault : ((length before < most_lines) × (line_bound kind at ≡ Err bad.fault))
+      ⊎ ((length before ≡ most_lines) × (bad.fault ≡ TooManyLines))
 
 abbrev pub Judged : {B : Type 0} → Kind B → List ℕ → Result (Verdict B) BadLine → Type 0
 Judged kind text (Ok v) = Summed kind text v

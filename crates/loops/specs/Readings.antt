@@ -1,5 +1,6 @@
--- The bound that a line says: 5, <5 for a strict one, or no limit. Assumes nothing.
-use Rattle.std.specs.Prelude.{ℕ, Bool, true, false, cond, List, [], ◌∷◌, ℤ, Some, None, Ok, Err, codes, Option, Result, ◌==◌}
+-- The bound that a line says: 5, <5 for a strict one, or no limit.
+use Rattle.std.specs.Prelude.{ℕ, Bool, true, false, List, [], ◌∷◌, ℤ, Some, None, Ok, Err, codes}
+use Rattle.std.specs.Prelude.{Option, Result, ◌==◌, if◌then◌else◌}
 use Rattle.bounds.specs.Kinds.{Kind, made}
 use Rattle.bounds.specs.declared.made.MakeError.{MakeError}
 use Rattle.std.specs.Str.{bytes_eq}
@@ -22,8 +23,10 @@ number_bound kind text strict = limit_bound kind strict (integer text)
 -- a strict bound begins with <
 abbrev pub marked_line_bound : {B : Type 0} → Kind B → List ℕ → Result B LineFault
 marked_line_bound kind [] = Err NotABound
-marked_line_bound kind (b ∷ text) = cond (b == 60) (number_bound kind text true) (number_bound kind (b ∷ text) false)
+marked_line_bound kind (b ∷ text) =
+    if b == 60 then number_bound kind text true else number_bound kind (b ∷ text) false
 
 -- the bound that a line says
 abbrev pub line_bound : {B : Type 0} → Kind B → List ℕ → Result B LineFault
-line_bound kind line = cond (bytes_eq line (codes "no limit")) (Ok kind.no_limit) (marked_line_bound kind line)
+line_bound kind line =
+    if bytes_eq line (codes "no limit") then Ok kind.no_limit else marked_line_bound kind line

@@ -1,4 +1,4 @@
-// The verdict on a whole loop.
+//! The verdict on a whole loop.
 ghost use Rattle.std.specs.Prelude.{◌≡◌, ◌+◌, ◌≤◌, Some};
 ghost use Rattle.loops.specs.Loops.{Judged, named, loop_verdict, with_bound, most_lines};
 ghost use Rattle.loops.specs.Readings.{line_bound};
@@ -10,14 +10,14 @@ use crate::text::split_line;
 use bounds::Bound;
 use std::fmt;
 
-// The sum of a loop's bounds, and whether any timing meets them.
+/// The sum of a loop's bounds, and whether any timing meets them.
 #[derive(Clone, Copy, PartialEq, Eq, Debug)]
 pub struct Verdict<B> {
     pub sum: B,
     pub possible: bool,
 }
 
-// The first line that is at fault, counted from 1.
+/// The first line that is at fault, counted from 1.
 #[derive(Clone, Copy, PartialEq, Eq, Debug)]
 pub struct BadLine {
     pub line: u32,
@@ -34,7 +34,7 @@ impl<B: Bound> Verdict<B> {
 }
 
 impl BadLine {
-    // The line after `count` good ones.
+    /// The line after `count` good ones.
     fn after(count: u32, fault: LineFault) -> BadLine
         requires { count ≤ most_lines }
         ensures { result ≡ record { line = count + 1; fault = fault } }
@@ -44,7 +44,7 @@ impl BadLine {
     }
 }
 
-// The sum with the bound of the line after `count` good ones.
+/// The sum with the bound of the line after `count` good ones.
 fn add_line<B: Bound>(sum: B, line: &[u8], count: u32) -> Result<B, BadLine>
     requires { count ≤ most_lines }
     ensures { result ≡ named count (with_bound B.Bound.kind sum (line_bound B.Bound.kind line.now)) }
@@ -54,7 +54,7 @@ fn add_line<B: Bound>(sum: B, line: &[u8], count: u32) -> Result<B, BadLine>
         .map_err(|fault| BadLine::after(count, fault))
 }
 
-// Adds up the bounds of a closed loop, one to a line.
+/// Adds up the bounds of a closed loop, one to a line.
 pub fn judge<B: Bound>(text: &[u8]) -> Result<Verdict<B>, BadLine>
     ensures { Judged B.Bound.kind text.now result }
 {

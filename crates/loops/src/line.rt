@@ -1,4 +1,4 @@
-// One line of a loop: the bound that it says, or what is wrong with it.
+//! One line of a loop: the bound that it says, or what is wrong with it.
 ghost use Rattle.loops.specs.FaultTexts.{line_fault_text};
 ghost use Rattle.std.specs.Prelude.{◌≡◌, Some};
 ghost use Rattle.loops.specs.Readings.{line_bound, number_bound};
@@ -8,9 +8,10 @@ use crate::text::integer;
 use bounds::{Bound, MakeError, NO_LIMIT_TEXT};
 use std::fmt;
 
-// So few that the sum of their bounds stays within 2^40, where sums are exact.
+/// So few that the sum of their bounds stays within 2^40, where sums are exact.
 pub(crate) const MOST_LINES: u32 = 1 << 22;
 
+/// What is wrong with a line, or with their number.
 #[derive(Clone, Copy, PartialEq, Eq, Debug)]
 pub enum LineFault {
     NotABound,
@@ -33,6 +34,7 @@ fn number_bound<B: Bound>(text: &[u8], strict: bool) -> Result<B, LineFault>
     Ok(B::make(number, strict)?)
 }
 
+/// The bound that a line says.
 pub fn read_bound<B: Bound>(line: &[u8]) -> Result<B, LineFault>
     ensures { result ≡ line_bound B.Bound.kind line.now }
 {

@@ -1,14 +1,16 @@
-// Lines, and the numbers in them.
-ghost use Rattle.loops.specs.Lines.{first_line, after_line, natural, integer, clipped, signed_clipped};
-ghost use Rattle.std.specs.Prelude.{◌≡◌, ◌≤◌, IfSome};
+//! Lines, and the numbers in them.
+ghost use Rattle.bounds.specs.Kinds.{largest_number};
+ghost use Rattle.loops.specs.Lines.{first_line, after_line, natural, integer, clipped};
+ghost use Rattle.loops.specs.Lines.{signed_clipped};
+ghost use Rattle.std.specs.Prelude.{◌≡◌, ◌+◌, ◌≤◌, IfSome};
 ghost use Rattle.std.specs.Option.{option_map};
 
 use bounds::LARGEST_NUMBER;
 
-// One past the largest number of a bound; every larger number is read as this one.
+/// One past the largest number of a bound; every larger number is read as this one.
 const PAST: u32 = LARGEST_NUMBER as u32 + 1;
 
-// The first line without its line feed, and what follows it.
+/// The first line without its line feed, and what follows it.
 pub fn split_line(text: &[u8]) -> (&[u8], &[u8])
     ensures line { result.0.now ≡ first_line text.now }
     ensures rest { result.1.now ≡ after_line text.now }
@@ -19,10 +21,10 @@ pub fn split_line(text: &[u8]) -> (&[u8], &[u8])
     }
 }
 
-// The number that decimal digits write, at most `PAST`.
+/// The number that decimal digits write, at most `PAST`.
 fn natural(text: &[u8]) -> Option<u32>
     ensures value { result ≡ option_map clipped (natural text.now) }
-    ensures bound { IfSome result (λ n. n ≤ 262144) }
+    ensures bound { IfSome result (λ n. n ≤ largest_number + 1) }
 {
     if text.is_empty() {
         return None;
@@ -38,7 +40,7 @@ fn natural(text: &[u8]) -> Option<u32>
     Some(number)
 }
 
-// The number that digits write, perhaps after a minus sign, from -`PAST` to `PAST`.
+/// The number that digits write, perhaps after a minus sign, from -`PAST` to `PAST`.
 pub fn integer(text: &[u8]) -> Option<i32>
     ensures { result ≡ option_map signed_clipped (integer text.now) }
 {

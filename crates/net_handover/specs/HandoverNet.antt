@@ -1,5 +1,4 @@
 -- The net of a line with two stops and one handover, and the proof that it keeps the limits of every net.
--- Assumes nothing.
 use Rattle.std.specs.Prelude.{ℕ, ◌≤◌, false, [], ◌∷◌, pos, neg_ℤ}
 use Rattle.std.proofs.Common.{arith, sym}
 use Rattle.std.proofs.lemmas.Int.{ints}
@@ -26,11 +25,13 @@ abbrev pub handover_net : ℕ → ℕ → Net PlainBound
 handover_net lower upper = record { places = 2; transitions = handover lower upper ∷ [] }
 
 -- ---- the limits
-pub ages_limits : {B : Type 0} (kind : Kind B) (lower upper : ℕ) → lower ≤ upper → upper ≤ largest_end → RangeLimits kind (ages kind lower upper)
+pub ages_limits : {B : Type 0} (kind : Kind B) (lower upper : ℕ) → lower ≤ upper →
+    upper ≤ largest_end → RangeLimits kind (ages kind lower upper)
 ages_limits kind lower upper ordered small =
     closed_range kind lower false (omega arith) upper false small (sym (omega (arith, ints)))
 
-pub handover_limits : (lower upper : ℕ) → lower ≤ upper → upper ≤ largest_end → Limits plain_kind (handover_net lower upper)
+pub handover_limits : (lower upper : ℕ) → lower ≤ upper → upper ≤ largest_end →
+    Limits plain_kind (handover_net lower upper)
 handover_limits lower upper ordered small =
     record {
       some_place = omega arith;
@@ -40,8 +41,10 @@ handover_limits lower upper ordered small =
         record {
           few_inputs = omega arith;
           few_outputs = omega arith;
-          inputs = (record { place = omega arith; range = ages_limits plain_kind lower upper ordered small }, tt);
-          outputs = (record { place = omega arith; range = ages_limits plain_kind 0 0 (omega arith) (omega arith) }, tt);
+          inputs =
+              (record { place = omega arith; range = ages_limits plain_kind lower upper ordered small }, tt);
+          outputs =
+              (record { place = omega arith; range = ages_limits plain_kind 0 0 (omega arith) (omega arith) }, tt);
         },
         tt,
       );

@@ -1,11 +1,11 @@
-// Edges of the kinds of bounds: plain, marked and compact.
+//! Edges of the kinds of bounds: plain, marked and compact.
 use bounds::{Bound, MakeError};
 #[cfg(test)]
 use std::process::Abort;
 #[cfg(test)]
 use std::test::Fail;
 
-// A number, doubled so many times.
+/// A number, doubled so many times.
 fn doubled<B: Bound>(number: i32, times: u8) -> Result<B, MakeError> {
     let first = B::make(number, false)?;
     Ok((0..times).fold(first, |b: B, _| b.sum(b)))
@@ -19,12 +19,12 @@ fn below<B: Bound>(a: B, b: B) -> bool {
     a.at_most(b) && !b.at_most(a)
 }
 
-// Whether a bound is made, or why not.
+/// Whether a bound is made, or why not.
 fn takes<B: Bound>(number: i32, strict: bool) -> Result<(), MakeError> {
     B::make(number, strict).map(|_| ())
 }
 
-// What every kind does at the edges.
+/// What every kind does at the edges.
 #[cfg(test)]
 fn check_edges<B: Bound>(rt: &impl Abort) -> Result<(), Fail> {
     assert!(rt; takes::<B>(262_143, false).is_ok());
@@ -45,7 +45,7 @@ fn check_edges<B: Bound>(rt: &impl Abort) -> Result<(), Fail> {
     Ok(())
 }
 
-// No limit, and 3 with -3, in every kind.
+/// No limit, and 3 with -3, in every kind.
 #[cfg(test)]
 fn check_sums<B: Bound>(rt: &impl Abort) -> Result<(), Fail> {
     let three = B::make(3, false)?;
@@ -59,7 +59,7 @@ fn check_sums<B: Bound>(rt: &impl Abort) -> Result<(), Fail> {
     Ok(())
 }
 
-// Strict bounds, where a kind has them: 3 strict stands just below 3, and 3 strict with -3 below zero.
+/// Strict bounds, where a kind has them: 3 strict stands just below 3, and 3 strict with -3 below zero.
 #[cfg(test)]
 fn check_marks<B: Bound>(rt: &impl Abort) -> Result<(), Fail> {
     assert!(rt; takes::<B>(262_143, true).is_ok());

@@ -1,4 +1,4 @@
-// Examples and edges of every layer, worked out by hand from the rules.
+//! Examples and edges of every layer, worked out by hand from the rules.
 #![tactic(auto)]
 
 mod bound_edges;

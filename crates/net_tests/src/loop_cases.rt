@@ -1,4 +1,4 @@
-// Loops of timing constraints and what is printed of them.
+//! Loops of timing constraints and what is printed of them.
 use bounds::MarkedBound;
 use loops::judge;
 use std::alloc::{AllocError, Global};

@@ -1,14 +1,14 @@
-// Net records made by hand, and the refusal of each: its number and its record.
+//! Net records made by hand, and the refusal of each: its number and its record.
 use net_records::fault::Refusal;
 use net_records::net::check_net;
 use std::alloc::{AllocError, Global};
 
-// First bytes of a header: two places of plain and of marked kind.
+/// First bytes of a header: two places of plain and of marked kind.
 const PLAIN: u8 = 0x41;
 
 const MARKED: u8 = 0x81;
 
-// First bytes of a transition, by how many inputs and outputs it has.
+/// First bytes of a transition, by how many inputs and outputs it has.
 const NONE: u8 = 0x00;
 
 const ONE_IN: u8 = 0x20;
@@ -19,7 +19,7 @@ const THREE_EACH: u8 = 0x6c;
 
 const FOUR_EACH: u8 = 0x90;
 
-// Slots, each with what a record is refused for that uses it.
+/// Slots, each with what a record is refused for that uses it.
 const PLACE_1: [u8; 5] = [4, 0, 0, 0, 0];
 
 const PLACE_2: [u8; 5] = [8, 0, 0, 0, 0]; // 13 where there are two places
@@ -44,7 +44,7 @@ fn slot_at(placed: &[Placed], number: usize) -> [u8; 5] {
         .map_or([0; 5], |(_, slot)| *slot)
 }
 
-// Adds a transition whose other slots are zero.
+/// Adds a transition whose other slots are zero.
 fn add_record(bytes: &mut Vec<u8>, counts: u8, placed: &[Placed]) -> Result<(), AllocError> {
     bytes.push(counts)?;
     for number in 0..8 {
@@ -53,13 +53,13 @@ fn add_record(bytes: &mut Vec<u8>, counts: u8, placed: &[Placed]) -> Result<(), 
     Ok(())
 }
 
-// The number of the refusal and of the record, if the bytes are refused.
+/// The number of the refusal and of the record, if the bytes are refused.
 fn refused(bytes: &[u8]) -> Option<(u8, usize)> {
     let fault = check_net(bytes).err()?;
     Some((fault.refusal.number(), fault.at))
 }
 
-// The same for a header and so many equal records of one input each.
+/// The same for a header and so many equal records of one input each.
 fn repeated(heap: Global, header: [u8; 4], count: u8) -> Result<Option<(u8, usize)>, AllocError> {
     let mut bytes = Vec::from_slice(heap, &header)?;
     for _ in 0..count {
@@ -68,7 +68,7 @@ fn repeated(heap: Global, header: [u8; 4], count: u8) -> Result<Option<(u8, usiz
     Ok(refused(&bytes))
 }
 
-// The same for two records of one input each, under plain kind.
+/// The same for two records of one input each, under plain kind.
 fn pair(heap: Global, first: Placed, second: Placed) -> Result<Option<(u8, usize)>, AllocError> {
     let mut bytes = Vec::from_slice(heap, &[PLAIN, 4, 0, 0])?;
     add_record(&mut bytes, ONE_IN, &[first])?;
@@ -82,7 +82,7 @@ mod tests {
     use std::process::Abort;
     use std::test::Fail;
 
-    // One transition under a header of this first byte: the number that it is refused with, if any.
+    /// One transition under a header of this first byte: the number that it is refused with, if any.
     fn check_case(
         rt: &impl Abort,
         heap: Global,

@@ -1,4 +1,4 @@
-// Nets in words: how ranges, sizes and refusals are written.
+//! Nets in words: how ranges, sizes and refusals are written.
 use net_records::slot::Slot;
 use net_words::{Ages, explain};
 use std::alloc::{AllocError, Global};

@@ -1,4 +1,4 @@
--- An arc, written for people. Assumes nothing.
+-- An arc, written for people.
 use Rattle.std.specs.Prelude.{ℕ, List, ◌++◌, codes, decimal}
 use Rattle.net_words.specs.Ages.{ages_text}
 use Rattle.net_words.specs.declared.arc.ArcWords.{ArcWords}

@@ -1,11 +1,12 @@
--- The whole text that bytes are explained by. Assumes nothing.
-use Rattle.std.specs.Prelude.{ℕ, zero, suc, List, [], ◌∷◌, ◌++◌, take, Some, None, codes, decimal, Option}
+-- The whole text that bytes are explained by.
+use Rattle.std.specs.Prelude.{ℕ, zero, suc, List, [], ◌∷◌, ◌++◌, Some, None, codes, decimal}
+use Rattle.std.specs.Prelude.{Option}
 use Rattle.net_words.specs.Arcs.{arc_text}
 use Rattle.net_words.specs.Summaries.{summary_text}
 use Rattle.nets.specs.declared.side.Side.{Side}
 use Rattle.nets.specs.declared.side.Side.TheVariants.{Input, Output}
 use Rattle.net_records.specs.NetBytes.{arcs_at, slot_at}
-use Rattle.net_records.specs.NetRecords.{net_header_of, net_fault}
+use Rattle.net_records.specs.NetRecords.{front_header, net_fault}
 use Rattle.net_records.specs.Refusals.{NetFault, fault_text}
 use Rattle.net_records.specs.declared.slot.Slot.{Slot}
 
@@ -31,11 +32,13 @@ side_lines bytes t side = each (arc_line bytes t side) (arcs_at bytes t side)
 
 abbrev pub transition_lines : List ℕ → ℕ → List ℕ
 transition_lines bytes t =
-    line (codes "transition " ++ decimal t) ++ (side_lines bytes t Input ++ side_lines bytes t Output)
+    line (codes "transition " ++ decimal t)
+    ++ (side_lines bytes t Input ++ side_lines bytes t Output)
 
 abbrev pub net_text : List ℕ → List ℕ
 net_text bytes =
-    line (summary_text (net_header_of (take 4 bytes))) ++ each (transition_lines bytes) (net_header_of (take 4 bytes)).transitions
+    line (summary_text (front_header bytes))
+    ++ each (transition_lines bytes) (front_header bytes).transitions
 
 abbrev pub refused_text : NetFault → List ℕ
 refused_text fault = line (codes "refused " ++ fault_text fault)

@@ -1,18 +1,18 @@
-// The ages that an arc's range allows, in words.
+//! The ages that an arc's range allows, in words.
 ghost use Rattle.net_words.specs.Ages.{end_text, ages_text};
 ghost use Rattle.std.specs.Prelude.{Some};
 
 use net_records::slot::{End, Slot};
 use std::fmt;
 
-// One end of a range, and the word for its mark.
+/// One end of a range, and the word for its mark.
 #[derive(Clone, Copy)]
 struct EndWords {
     mark: &'static str,
     end: End,
 }
 
-// The range of a slot.
+/// The range of a slot.
 #[derive(Clone, Copy)]
 pub struct Ages(pub Slot);
 

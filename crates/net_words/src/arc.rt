@@ -1,4 +1,4 @@
-// An arc in words.
+//! An arc in words.
 ghost use Rattle.net_words.specs.Arcs.{arc_text};
 ghost use Rattle.std.specs.Prelude.{Some};
 

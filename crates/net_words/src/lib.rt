@@ -1,4 +1,4 @@
-// A net in words for a person: what each transition takes and puts, or why the bytes are refused.
+//! A net in words for a person: what each transition takes and puts, or why the bytes are refused.
 #![tactic(auto)]
 
 pub mod ages;

@@ -1,4 +1,4 @@
-// The whole text: a summary, then each transition with its arcs.
+//! The whole text: a summary, then each transition with its arcs.
 ghost use Rattle.net_words.specs.Explained.{side_lines, transition_lines, net_text, explained_text};
 ghost use Rattle.std.specs.Prelude.{◌≡◌, Some, IfOk, string_bytes};
 
@@ -9,7 +9,7 @@ use nets::Side;
 use std::alloc::{AllocError, Global};
 use std::fmt;
 
-// A line for each arc of a side.
+/// A line for each arc of a side.
 #[derive(Clone, Copy)]
 struct SideLines<'a> {
     net: PackedNet<'a>,
@@ -75,7 +75,7 @@ impl<'a> fmt::Display for NetLines<'a> {
     }
 }
 
-// What the bytes say, line by line: the net, or in one line why they are refused. The only error is memory that is not there.
+/// What the bytes say, line by line: the net, or in one line why they are refused. The only error is memory that is not there.
 pub fn explain(heap: Global, bytes: &[u8]) -> Result<String, AllocError>
     ensures { IfOk result (λ s. string_bytes s ≡ explained_text bytes.now) }
 {

@@ -1,11 +1,11 @@
-// The first line of a net in words: its kind, and how many places and transitions it has.
+//! The first line of a net in words: its kind, and how many places and transitions it has.
 ghost use Rattle.net_words.specs.Summaries.{counted_text, summary_text};
 ghost use Rattle.std.specs.Prelude.{Some};
 
 use net_records::header::{NetHeader, NetKind};
 use std::fmt;
 
-// So many things of a name that takes an `s` unless there is one.
+/// So many things of a name that takes an `s` unless there is one.
 #[derive(Clone, Copy)]
 pub struct Counted {
     pub count: u8,

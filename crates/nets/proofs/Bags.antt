@@ -1,4 +1,4 @@
--- Permuted lists: backwards, with other lists before or after, turned round, and under a map. Assumes nothing.
+-- Permuted lists: backwards, with other lists before or after, turned round, and under a map.
 use Rattle.std.proofs.Common.{◌≡◌, List, [], ◌∷◌, ◌++◌, map, sym, subst}
 use Rattle.std.proofs.lemmas.List.{append-nil}
 use Rattle.nets.specs.Markings.{Permuted}

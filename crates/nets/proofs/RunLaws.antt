@@ -1,4 +1,4 @@
--- The laws of runs, over every kind and net. Assumes nothing.
+-- The laws of runs, over every kind and net.
 use Rattle.std.proofs.Common.{◌≡◌, ℕ, zero, suc, ◌*◌, ◌≤◌, ◌&&◌, List, [], ◌∷◌, ◌++◌, pos, ◌*ℤ◌, neg_ℤ, sym, refl, ap, ◌∙◌, subst, mul-zero, mul-add, arith}
 use borrow.Author.Differences.{ints}
 use mathlib.Core.List.{map-append}

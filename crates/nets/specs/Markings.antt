@@ -1,6 +1,5 @@
 -- Tokens and markings. A marking is a bag: the order of its list means nothing.
--- Assumes nothing.
-use Rattle.std.specs.Prelude.{◌≡◌, ℕ, ◌+◌, ◌*◌, true, List, [], ◌∷◌, map, pos}
+use Rattle.std.specs.Prelude.{◌≡◌, ℕ, ◌+◌, ◌*◌, List, [], ◌∷◌, map, pos, IsTrue}
 use Rattle.bounds.specs.Kinds.{Kind}
 use Rattle.bounds.specs.Ranges.{holds}
 use Rattle.nets.specs.Nets.{Arc}
@@ -37,7 +36,7 @@ refined k m = map (finer k) m
 -- the token stands in the arc's place, and the arc's range holds its age on grid k
 pub record Fits {B : Type 0} (kind : Kind B) (k : ℕ) (arc : Arc B) (t : Token) : Type 0 where
   pub place : t.place ≡ arc.place
-  pub age : holds kind k arc.range (pos t.age) ≡ true
+  pub age : IsTrue (holds kind k arc.range (pos t.age))
 
 -- one token for each arc, in the arcs' order
 abbrev pub FitsAll : {B : Type 0} → Kind B → ℕ → List (Arc B) → List Token → Type 0

@@ -2,8 +2,8 @@
 --     arc           a place and a range of ages
 --     transition    input and output arcs, both numbered from 1
 --     net           places, numbered from 0, and transitions, numbered from 1
--- Assumes nothing.
-use Rattle.std.specs.Prelude.{◌≡◌, ℕ, zero, suc, ◌<◌, ◌≤◌, Bool, true, ◌⊎◌, List, [], ◌∷◌, length, ℤ, pos, neg_ℤ, slice_index_or}
+use Rattle.std.specs.Prelude.{◌≡◌, ℕ, zero, suc, ◌<◌, ◌≤◌, Bool, ◌⊎◌, List, [], ◌∷◌, length, ℤ, pos}
+use Rattle.std.specs.Prelude.{neg_ℤ, slice_index_or, IsTrue}
 use Rattle.bounds.specs.Kinds.{Kind}
 use Rattle.bounds.specs.Ranges.{from_zero}
 use Rattle.bounds.specs.declared.range.Range.{Range}
@@ -31,14 +31,14 @@ pub record Ended {B : Type 0} (kind : Kind B) (sign : ℕ → ℤ) (b : B) : Typ
   pub end : ℕ
   pub strict : Bool
   pub small : end ≤ largest_end
-  pub takes : strict ≡ true → kind.marks ≡ true
+  pub takes : IsTrue strict → IsTrue kind.marks
   pub is : b ≡ kind.number (sign end) strict
 
 -- both ends lie from 0 to 32767, the upper one perhaps without limit, and some age on some grid may lie between them
 pub record RangeLimits {B : Type 0} (kind : Kind B) (range : Range B) : Type 0 where
   pub lower : Ended kind (λ n. neg_ℤ (pos n)) range.lower
   pub upper : (range.upper ≡ kind.no_limit) ⊎ Ended kind pos range.upper
-  pub sum : kind.at_most kind.zero (kind.sum range.upper range.lower) ≡ true
+  pub sum : IsTrue (kind.at_most kind.zero (kind.sum range.upper range.lower))
 
 -- P of every element
 abbrev pub Every : {X : Type 0} → (X → Type 0) → List X → Type 0

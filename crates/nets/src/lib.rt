@@ -1,4 +1,4 @@
-// Timed Petri nets: the model with its runs, and the interface of a net store.
+//! Timed Petri nets: the model with its runs, and the interface of a net store.
 #![tactic(auto)]
 
 pub mod runs;

@@ -1,4 +1,4 @@
-// The two sides of a transition.
+//! The two sides of a transition.
 
 #[derive(Clone, Copy, PartialEq, Eq, Debug)]
 pub enum Side {

@@ -1,9 +1,9 @@
-// Net records made by hand: one transition of one input and one output arc.
+//! Net records made by hand: one transition of one input and one output arc.
 use std::alloc::{AllocError, Global};
 
 pub const UNUSED: [u8; 5] = [0; 5];
 
-// By the header's four bytes, and the slots of the two arcs.
+/// By the header's four bytes, and the slots of the two arcs.
 pub fn one_transition(
     heap: Global,
     header: &[u8; 4],

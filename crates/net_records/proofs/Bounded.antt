@@ -9,7 +9,7 @@ use Rattle.bounds.specs.Ranges.{below_zero}
 use Rattle.nets.specs.Nets.{largest_end, RangeLimits, Every, ArcLimits, TransitionLimits, Limits}
 use Rattle.nets.specs.declared.side.Side.{Side}
 use Rattle.nets.specs.declared.side.Side.TheVariants.{Input, Output}
-use Rattle.nets.proofs.Ranges.{open_range, closed_range}
+use Rattle.nets.proofs.Ranges.{open_range, some_range}
 use Rattle.net_records.specs.Bits.{field, flag}
 use Rattle.net_records.specs.NetBytes.{slot_arc, record_transition, transitions_of, net_of}
 use Rattle.net_records.specs.NetRecords.{net_header_of, transition_record, slot_side, some_slot_from, place_missing, empty_range, record_rows, transition_refusal, transition_fault, transitions_fault, sound}
@@ -56,7 +56,7 @@ module _ {B : Type 0} (kind : Kind B) where
       → RangeLimits kind (record { upper = upper_bound kind upper; lower = lower_bound kind lower })
   range_limits lower None low_small high_small e = open_range kind lower.number lower.strict low_small
   range_limits lower (Some upper) low_small high_small e =
-      closed_range kind lower.number lower.strict low_small upper.number upper.strict high_small e
+      some_range kind lower.number lower.strict low_small upper.number upper.strict high_small e
 
   -- ---- slots
   slot_limits : (h : NetHeader) (s : Slot) → Small s → leb h.places s.place ≡ false → is_empty s ≡ false → ArcLimits kind h.places (slot_arc kind s)

@@ -74,13 +74,16 @@ module _ {B : Type 0} (kind : Kind B) where
         }
 
     -- up to u, where the marked ends do not sum below zero
-    pub closed_range : (u : ℕ) (t : Bool) → u ≤ largest_end → below_zero marked_kind (range_of marked_kind l s u t) ≡ false → RangeLimits kind (range_of kind l s u t)
+    pub closed_range : (u : ℕ) (t : Bool) → u ≤ largest_end → le_z (place (pos 0) false) (place (difference l u) (t || s)) ≡ true → RangeLimits kind (range_of kind l s u t)
     closed_range u t high_small h =
-        let m = kind.marks in
-        let marked = sym (ends_order marked_kind l s low_small u t high_small) ∙ not-false _ h in
-        let both : le_z (place (pos 0) false) (place (difference l u) (t || s)) ≡ true = ap₂ (λ a b. le_z (place (pos 0) false) (place (difference l u) (a || b))) (sym (and-true t)) (sym (and-true s)) ∙ marked in
         record {
           lower = low_end;
-          upper = inr (record { end = u; strict = t && m; small = high_small; takes = takes kind t; is = refl });
-          sum = ends_order kind l s low_small u t high_small ∙ raised (difference l u) t s m both;
+          upper = inr (record { end = u; strict = t && kind.marks; small = high_small; takes = takes kind t; is = refl });
+          sum = ends_order kind l s low_small u t high_small ∙ raised (difference l u) t s kind.marks h;
         }
+
+    -- the same, told by marked bounds
+    pub some_range : (u : ℕ) (t : Bool) → u ≤ largest_end → below_zero marked_kind (range_of marked_kind l s u t) ≡ false → RangeLimits kind (range_of kind l s u t)
+    some_range u t high_small h =
+        let marked = sym (ends_order marked_kind l s low_small u t high_small) ∙ not-false _ h in
+        closed_range u t high_small (ap₂ (λ a b. le_z (place (pos 0) false) (place (difference l u) (a || b))) (sym (and-true t)) (sym (and-true s)) ∙ marked)

@@ -1,4 +1,4 @@
--- What comes after an item, from what the three searches answer. Assumes nothing.
+-- What comes after an item, from what the three searches answer.
 use Rattle.std.proofs.Common.{◌≡◌, ℕ, ◌+◌, ◌≤◌, Bool, true, false, cond, ◌&&◌, ltb, List, [], length, Option, Some, None, sym, refl, ap, ◌∙◌, subst, arith}
 use Rattle.std.proofs.lemmas.Bool.{ltb-true, ltb-false}
 use Rattle.std.specs.Option.{MatchOption, option_or}
@@ -10,7 +10,7 @@ use Rattle.zones.specs.Predecessors.{is_matching}
 use Rattle.docket_dues.specs.Dues.{item, delay_item, Leads}
 use Rattle.docket_dues.specs.declared.item.Item.{Item}
 use Rattle.docket_dues.proofs.Order.{LastMatching, LastOfZone, next_matching_leads, next_transition_leads, next_zone_leads, none_leads}
-use Rattle.docket_items.specs.Next.{LaterMatching}
+use Rattle.docket_items.specs.Next.{LaterMatching, later_transition, later_zone}
 
 -- what `or_else` answers
 pub chosen : (first second : Option Item) (Closure : Type 0) (other : Option Item) → (Closure → second ≡ other) → MatchOption first Closure (λ d. second ≡ Some d) → second ≡ option_or first other
@@ -30,7 +30,7 @@ module _ {B : Type 0} (kind : Kind B) (net : Net B) (limits : Limits kind net) (
   transition_leads z t n zones false few is_listed left long last =
       zone_leads z t n zones (ltb z zones) refl long (last, λ some. absurd (omega (arith, some, ltb-false 0 z is_listed)))
 
-  pub later_leads : (places : List ℕ) (zones : ℕ) (d : Item) (matching : Option Item) → LaterMatching net places d matching → length listed ≡ zones → (1 ≤ d.zone → numbered listed d.zone [] ≡ places) → Leads net listed d (option_or (option_or matching (cond (ltb 0 d.zone && ltb d.transition (length net.transitions)) (Some (item d.zone (d.transition + 1) 0)) None)) (cond (ltb d.zone zones) (Some (delay_item (d.zone + 1))) None))
+  pub later_leads : (places : List ℕ) (zones : ℕ) (d : Item) (matching : Option Item) → LaterMatching net places d matching → length listed ≡ zones → (1 ≤ d.zone → numbered listed d.zone [] ≡ places) → Leads net listed d (option_or (option_or matching (later_transition net d)) (later_zone zones d))
   later_leads places zones d None none long here =
       transition_leads d.zone d.transition d.matching zones _ _ refl refl long (λ some firing. subst (λ ps. Next (is_matching ps (arcs_of net d.transition Output)) d.matching None) (sym (here some)) (none some firing))
   later_leads places zones d (Some later) next long here =

@@ -1,8 +1,7 @@
 // The item that is due after another: the next matching, else the next transition, else the next zone.
-ghost use Rattle.std.specs.Prelude.{◌≡◌, ◌+◌, ◌≤◌, ◌&&◌, ℕ, List, [], Some, None, length, if◌then◌else◌, nat_lt};
-ghost use Rattle.docket_dues.specs.Dues.{Leads, item as the_item, delay_item};
-ghost use Rattle.docket_items.specs.Next.{LaterMatching};
-ghost use Rattle.nets.specs.Nets.{numbered};
+ghost use Rattle.std.specs.Prelude.{◌≡◌, ℕ, List};
+ghost use Rattle.docket_dues.specs.Dues.{Leads};
+ghost use Rattle.docket_items.specs.Next.{Follows, LaterMatching, Lists, later_transition, later_zone};
 
 use bounds::Bound;
 use docket_dues::Item;
@@ -21,7 +20,7 @@ fn later_matching<B: Bound, N: NetStore<B>>(store: &N, places: &[u8], item: Item
 
 // The first matching of every transition is 0.
 fn later_transition<B: Bound, N: NetStore<B>>(store: &N, item: Item) -> Option<Item>
-    ensures { result ≡ (if nat_lt 0 item.zone && nat_lt item.transition (length (N.NetStore.net store.now).transitions) then Some (the_item item.zone (item.transition + 1) 0) else None) }
+    ensures { result ≡ later_transition (N.NetStore.net store.now) item }
 {
     (item.zone != 0 && item.transition < store.transitions()).then(|| Item {
         transition: item.transition + 1,
@@ -31,7 +30,7 @@ fn later_transition<B: Bound, N: NetStore<B>>(store: &N, item: Item) -> Option<I
 }
 
 fn later_zone(zones: u8, item: Item) -> Option<Item>
-    ensures { result ≡ (if nat_lt item.zone zones then Some (delay_item (item.zone + 1)) else None) }
+    ensures { result ≡ later_zone zones item }
 {
     (item.zone < zones).then(|| Item {
         zone: item.zone + 1,
@@ -40,14 +39,17 @@ fn later_zone(zones: u8, item: Item) -> Option<Item>
     })
 }
 
-// The item after this one, which need not be due itself. The places are those of its zone; the target's do not matter.
+/// The item after this one, which need not be due itself. The places are those of its zone; the
+/// target's do not matter.
 pub fn next_due<B: Bound, N: NetStore<B>>(
     store: &N,
     zones: u8,
     places: &[u8],
     item: Item,
 ) -> Option<Item>
-    ensures { (listed : List (List ℕ)) → length listed ≡ zones → (1 ≤ item.zone → numbered listed item.zone [] ≡ places.now) → Leads (N.NetStore.net store.now) listed item result }
+    ensures follows { Follows (N.NetStore.net store.now) zones places.now item result }
+    ensures leads { (listed : List (List ℕ)) → Lists listed zones item.zone places.now →
+        Leads (N.NetStore.net store.now) listed item result }
 {
     store.keeps_limits();
     later_matching(store, places, item)

@@ -1,6 +1,6 @@
 // The zone that an item asks to vouch for, made in a draft.
-ghost use Rattle.std.specs.Prelude.{◌≡◌, ◌≤◌, length};
-ghost use Rattle.docket_items.specs.Made.{ZoneMade};
+ghost use Rattle.std.specs.Prelude.{◌≡◌};
+ghost use Rattle.docket_items.specs.Made.{ZoneMade, copied};
 
 use bounds::Bound;
 use docket_dues::Item;
@@ -12,21 +12,22 @@ use zone_pages::Page;
 
 // The tokens of a page; more than there is room for are none.
 fn page_tokens(places: &[u8]) -> Tokens
-    ensures { length places.now ≤ 12 → result.items ≡ places.now }
+    ensures { result ≡ copied places.now }
 {
     let mut tokens = Tokens::new();
     let _ = tokens.try_extend_from_slice(places);
     tokens
 }
 
-// Makes it from the page of the item's zone. Answers its tokens, or none where the item is void.
+/// Makes it from the page of the item's zone. Answers its tokens, or none where the item is void.
 pub fn item_zone<B: Bound, N: NetStore<B>>(
     store: &N,
     page: &Page<'_, B>,
     item: Item,
     draft: &mut [B],
 ) -> Option<Tokens>
-    ensures { ZoneMade B.Bound.kind (N.NetStore.net store.now) page.now.places.now page.now.cells.now item draft.old draft.new result }
+    ensures { ZoneMade B.Bound.kind (N.NetStore.net store.now) page.now.places.now page.now.cells.now
+        item draft.old draft.new result }
 {
     let places = page.places;
     page.load(draft);

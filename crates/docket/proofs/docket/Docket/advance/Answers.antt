@@ -14,6 +14,6 @@ returns g c =
     let stage = c.match-next_due.self in
     let taken = c.saturating_add-self-inside.result in
     subst (Advanced kind net w c.args.item) (ap (λ s. record { stage = stage; initial = s.initial; counts = s.counts; taken = taken }) (sym c.self.view_is))
-    (advanced kind net w c.args.item c.listed.result c.page.result.places.now c.next_due.result stage taken c.listed.ensures c.page.ensures.places c.next_due.ensures
+    (advanced kind net w c.args.item c.listed.result c.page.result.places.now c.next_due.result stage taken c.listed.ensures c.page.ensures.places c.next_due.ensures.leads
     (elim c.match-next_due.branch [ in-Some w ↦ w.self-is ∙ ap stage_of (sym w.in-Some.is) | in-None w ↦ w.self-is ∙ ap stage_of (sym w.in-None.is) ])
     (c.saturating_add-self-inside.ensures ∙ ap (λ s. min (s.taken + 1) most_taken) c.self.view_is))

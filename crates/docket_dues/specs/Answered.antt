@@ -1,7 +1,6 @@
 -- Items answered, and a list of zones with every item answered.
 --     listed    the zones that are numbered from 1; 0 is the target
 --     void      no marking of the zone can have come about by the item's firing
--- Assumes nothing.
 use Rattle.std.specs.Prelude.{◌≡◌, ℕ, zero, suc, ◌<◌, ◌≤◌, ◌⊎◌, List, map, length}
 use Rattle.bounds.specs.Kinds.{Kind, largest_size}
 use Rattle.nets.specs.Markings.{Marking}
@@ -27,31 +26,43 @@ zone_named target listed z = numbered listed z target
 
 -- ---- one item: a zone, a transition and a matching by their numbers
 -- w is the zone that the item asks to vouch for
-abbrev pub ItemZone : {B : Type 0} → Kind B → Net B → (target : Zone B) → List (Zone B) → (zone transition matching : ℕ) → Zone B → Type 0
+abbrev pub ItemZone : {B : Type 0} → Kind B → Net B → (target : Zone B) → List (Zone B) →
+    (zone transition matching : ℕ) → Zone B → Type 0
 ItemZone kind net target listed zero t n w = SameZone target w
-ItemZone kind net target listed (suc z) zero n w = DelayPredecessor kind (zone_named target listed (suc z)) w
-ItemZone kind net target listed (suc z) (suc t) n w = FiringPredecessor kind (transition_of net (suc t)) (digits net (suc t) n) (zone_named target listed (suc z)) w
+ItemZone kind net target listed (suc z) zero n w =
+    DelayPredecessor kind (zone_named target listed (suc z)) w
+ItemZone kind net target listed (suc z) (suc t) n w =
+    FiringPredecessor kind (transition_of net (suc t)) (digits net (suc t) n)
+    (zone_named target listed (suc z)) w
 
 -- the item is void, as only a firing can be
-abbrev pub VoidItem : {B : Type 0} → Kind B → Net B → (target : Zone B) → List (Zone B) → (zone transition matching : ℕ) → Type 0
+abbrev pub VoidItem : {B : Type 0} → Kind B → Net B → (target : Zone B) → List (Zone B) →
+    (zone transition matching : ℕ) → Type 0
 VoidItem kind net target listed zero t n = ⊥
 VoidItem kind net target listed (suc z) zero n = ⊥
-VoidItem kind net target listed (suc z) (suc t) n = Void kind (transition_of net (suc t)) (digits net (suc t) n) (zone_named target listed (suc z))
+VoidItem kind net target listed (suc z) (suc t) n =
+    Void kind (transition_of net (suc t)) (digits net (suc t) n) (zone_named target listed (suc z))
 
 -- a listed zone vouches for what the item asks
-pub record VouchedFor {B : Type 0} (kind : Kind B) (net : Net B) (target : Zone B) (listed : List (Zone B)) (d : Item) : Type 0 where
+pub record VouchedFor {B : Type 0} (kind : Kind B) (net : Net B) (target : Zone B)
+    (listed : List (Zone B)) (d : Item) : Type 0 where
   pub asked : Zone B
   pub is : ItemZone kind net target listed d.zone d.transition d.matching asked
   pub vouched : Vouched kind listed asked
 
-abbrev pub Answered : {B : Type 0} → Kind B → Net B → (target : Zone B) → List (Zone B) → Item → Type 0
-Answered kind net target listed d = VoidItem kind net target listed d.zone d.transition d.matching ⊎ VouchedFor kind net target listed d
+abbrev pub Answered : {B : Type 0} → Kind B → Net B → (target : Zone B) → List (Zone B) → Item →
+    Type 0
+Answered kind net target listed d =
+    VoidItem kind net target listed d.zone d.transition d.matching
+    ⊎ VouchedFor kind net target listed d
 
--- ---- a list of zones: each is small and without a marking that a run may start from, and every item that is due is answered
+-- ---- a list of zones: each is small and without a marking that a run may start from, and every
+-- item that is due is answered
 abbrev pub places_of_all : {B : Type 0} → List (Zone B) → List (List ℕ)
 places_of_all listed = map (λ z. z.places) listed
 
-pub record AllAnswered {B : Type 0} (kind : Kind B) (net : Net B) (starts : ℕ → Marking → Type 0) (target : Zone B) (listed : List (Zone B)) : Type 0 where
+pub record AllAnswered {B : Type 0} (kind : Kind B) (net : Net B) (starts : ℕ → Marking → Type 0)
+    (target : Zone B) (listed : List (Zone B)) : Type 0 where
   pub few_tokens : Every (λ z. length z.places ≤ 8) listed
   pub small : Every (SizedZone kind largest_size) listed
   pub apart : Every (Apart kind starts) listed

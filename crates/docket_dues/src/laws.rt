@@ -1,4 +1,4 @@
-// What is due, and what answers to all of it mean.
+//! What is due, and what answers to all of it mean.
 ghost use Rattle.docket_dues.specs.Answered.{AllAnswered};
 ghost use Rattle.docket_dues.specs.DueLaws.{DueLaws};
 ghost use Rattle.nets.specs.Markings.{Marking};
@@ -9,18 +9,21 @@ ghost use Rattle.std.specs.Prelude.{ℕ, List};
 
 use bounds::Bound;
 
-// Does nothing: its contract is what is due, and in which order, for every net and list of zones.
+/// Does nothing: its contract is what is due, and in which order, for every net and list of zones.
 pub fn dues_keep_laws<B: Bound>()
     ensures { (net : Net B) (listed : List (List ℕ)) → DueLaws net listed }
 {}
 
-// Does nothing: its contract is that answers to all that is due are a certificate, and so show the target safe, for every kind and net.
+/// Does nothing: its contract is that answers to all that is due are a certificate, and so show the
+/// target safe, for every kind and net.
 pub fn answers_make_a_certificate<B: Bound>()
-    ensures certificate { (net : Net B) (initial : Marking) (target : Zone B) (listed : List (Zone B)) →
+    ensures certificate { (net : Net B) (initial : Marking) (target : Zone B)
+        (listed : List (Zone B)) →
         Limits B.Bound.kind net →
         AllAnswered B.Bound.kind net (starts_at initial) target listed →
         Certificate B.Bound.kind net (starts_at initial) target listed }
-    ensures safe { (net : Net B) (initial : Marking) (target : Zone B) (listed : List (Zone B)) →
+    ensures safe { (net : Net B) (initial : Marking) (target : Zone B)
+        (listed : List (Zone B)) →
         Limits B.Bound.kind net →
         AllAnswered B.Bound.kind net (starts_at initial) target listed →
         Safe B.Bound.kind net (starts_at initial) target }

@@ -1,5 +1,6 @@
-// What is due for a list of zones, in its order, and why answers to all of it make a certificate.
-// Theory and one struct, on contracts of functions that do nothing.
+//! What is due for a list of zones, in its order, and why answers to all of it make a certificate.
+//!
+//! Theory, on contracts of functions that do nothing, and one struct.
 #![tactic(auto)]
 
 pub mod item;

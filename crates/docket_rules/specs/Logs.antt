@@ -1,6 +1,7 @@
--- What a list of calls has put into a docket, told by the calls that were taken alone: what they gave,
--- as it was given, and what a docket then keeps.
-use Rattle.std.specs.Prelude.{ℕ, ◌+◌, ◌≤◌, Bool, true, false, List, [], ◌∷◌, ◌++◌, map, length, drop, Ok, Err, Some, None, Option}
+-- What a list of calls has put into a docket, told by the calls that were taken alone: what they
+-- gave, as it was given, and what a docket then keeps.
+use Rattle.std.specs.Prelude.{ℕ, ◌+◌, ◌≤◌, Bool, true, false, List, [], ◌∷◌, ◌++◌, map, length}
+use Rattle.std.specs.Prelude.{drop, Ok, Err, Some, None, Option}
 use Rattle.bounds.specs.Kinds.{Kind}
 use Rattle.docket_dues.specs.Answered.{places_of_all}
 use Rattle.docket_dues.specs.Dues.{all_due}
@@ -20,6 +21,9 @@ pub record Opening (B : Type 0) : Type 0 where
   pub initial : List InitialToken
   pub target : Zone B
 
+abbrev pub opening : {B : Type 0} → (initial : List InitialToken) → (target : Zone B) → Opening B
+opening initial target = record { initial = initial; target = target }
+
 pub record Log (B : Type 0) : Type 0 where
   pub opening : Option (Opening B)
   -- the zones of the posts that were taken
@@ -35,7 +39,7 @@ no_log = record { opening = None; listed = []; closed = false; taken = 0 }
 -- a call that was refused leaves no trace
 abbrev pub with_call : {B : Type 0} → Kind B → Log B → Call B → Log B
 with_call kind log (Open g target scratch (Ok u)) =
-    record log { opening = Some (record { initial = initial_tokens g; target = zone_of kind target }) }
+    record log { opening = Some (opening (initial_tokens g) (zone_of kind target)) }
 with_call kind log (Open g target scratch (Err r)) = log
 with_call kind log (Post zone scratch (Ok u)) =
     record log { listed = log.listed ++ (zone_of kind zone ∷ []) }
@@ -62,17 +66,17 @@ proving_stage (d ∷ later) = Proving d
 
 abbrev pub stage_said : {B : Type 0} → Net B → Log B → Option (Opening B) → Bool → Stage
 stage_said net log None closed = Blank
-stage_said net log (Some opening) false = Listing
-stage_said net log (Some opening) true = proving_stage (still_due net log)
+stage_said net log (Some o) false = Listing
+stage_said net log (Some o) true = proving_stage (still_due net log)
 
 -- the tokens that were given, and how many each record has, the target's first
 abbrev pub initial_said : {B : Type 0} → Option (Opening B) → List InitialToken
 initial_said None = []
-initial_said (Some opening) = opening.initial
+initial_said (Some o) = o.initial
 
 abbrev pub counts_said : {B : Type 0} → List (Zone B) → Option (Opening B) → List ℕ
 counts_said listed None = []
-counts_said listed (Some opening) = map (λ z. length z.places) (opening.target ∷ listed)
+counts_said listed (Some o) = map (λ z. length z.places) (o.target ∷ listed)
 
 abbrev pub state_said : {B : Type 0} → Net B → Log B → State
 state_said net log =
@@ -87,8 +91,8 @@ state_said net log =
 abbrev pub FormsOf : {B : Type 0} → Kind B → List (Zone B) → Option (Opening B) →
     (zones : ℕ → Zone B) → Type 0
 FormsOf kind listed None zones = Unit {0}
-FormsOf kind listed (Some opening) zones =
-    (p : ℕ) → p ≤ length listed → NormalOf kind (numbered listed p opening.target) (zones p)
+FormsOf kind listed (Some o) zones =
+    (p : ℕ) → p ≤ length listed → NormalOf kind (numbered listed p o.target) (zones p)
 
 abbrev pub Forms : {B : Type 0} → Kind B → Log B → (zones : ℕ → Zone B) → Type 0
 Forms kind log zones = FormsOf kind log.listed log.opening zones

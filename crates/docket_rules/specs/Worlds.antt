@@ -4,7 +4,8 @@
 --               listed zones
 --     world     a docket's state and a book, as they stand between two calls
 --     lent      a world with the scratch page that one call is lent besides
-use Rattle.std.specs.Prelude.{ℕ, ◌*◌, ◌-◌, Bool, ◌&&◌, List, [], map, length, take, drop, ◌==◌, nat_le, slice_index}
+use Rattle.std.specs.Prelude.{ℕ, ◌*◌, ◌-◌, Bool, ◌&&◌, List, [], map, length, take, drop, ◌==◌}
+use Rattle.std.specs.Prelude.{nat_le, slice_index}
 use Rattle.std.specs.List.{range_with_len}
 use Rattle.bounds.specs.Kinds.{Kind}
 use Rattle.zone_cells.specs.Drafts.{page_zone}
@@ -56,6 +57,9 @@ book_whole w = length w.cells == book_cells && length w.places == book_places
 
 abbrev pub whole : {B : Type 0} → Lent B → Bool
 whole call = book_whole call.world && length call.scratch == draft_cells
+
+abbrev pub sized : {B : Type 0} → World B → (scratch : List B) → Bool
+sized w scratch = whole (with_scratch w scratch)
 
 -- ---- pages
 -- the cells of the page with this number

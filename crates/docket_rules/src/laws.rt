@@ -11,8 +11,8 @@ pub fn seals_keep_promises<B: Bound>()
     ensures { (net : Net B) → Limits B.Bound.kind net → Promise B.Bound.kind net }
 {}
 
-/// Does nothing: its contract is that one call after another leads to what is promised, and that each
-/// has one answer alone and leaves one docket and one book.
+/// Does nothing: its contract is that one call after another leads to what is promised, and that
+/// each has one answer alone and leaves one docket and one book.
 pub fn calls_keep_laws<B: Bound>()
     ensures { (net : Net B) → Limits B.Bound.kind net → CallLaws B.Bound.kind net }
 {}

@@ -1,5 +1,7 @@
-// What a docket takes and answers, call by call, and what its seal promises.
-// Theory, on the contract of a function that does nothing.
+//! What a docket takes and answers, call by call, and what its seal promises. Begin with
+//! specs/Promise.antt.
+//!
+//! Theory, on contracts of functions that do nothing, and one enum.
 #![tactic(auto)]
 
 pub mod laws;

@@ -1,13 +1,15 @@
-// How far a docket has come.
+//! How far a docket has come.
 use docket_dues::Item;
 
+/// How far a docket has come: each stage takes calls of its own.
 #[derive(Clone, Copy, PartialEq, Eq, Debug)]
 pub enum Stage {
+    /// As a new docket is.
     Blank,
-    // opened: zones may be posted
+    /// Opened: zones may be posted.
     Listing,
-    // closed, with the first item that is due
+    /// Closed, with the first item that is due.
     Proving(Item),
-    // every item is vouched for
+    /// Every item is vouched for.
     Sealed,
 }

@@ -1,4 +1,4 @@
--- An item is answered where it is void, or where a listed zone vouches for what it asks. Assumes nothing.
+-- An item is answered where it is void, or where a listed zone vouches for what it asks.
 use Rattle.std.proofs.Common.{ℕ, zero, suc, ◌<◌, ◌≤◌, List, [], ◌∷◌, length, get_or, inl, inr, arith}
 use Rattle.bounds.specs.Kinds.{Kind}
 use Rattle.nets.specs.Nets.{Net}

@@ -1,4 +1,4 @@
--- What follows an item: the next matching, else the next transition, else the next zone, else nothing. Assumes nothing.
+-- What follows an item: the next matching, else the next transition, else the next zone, else nothing.
 use Rattle.std.proofs.Common.{◌≡◌, ℕ, zero, suc, ◌+◌, ◌-◌, ◌<◌, ◌≤◌, Bool, true, false, cond, List, [], ◌∷◌, ◌++◌, map, length, Some, None, refl, ap, ◌∙◌, ⊎_elim, arith}
 use Rattle.std.specs.List.{filter, flat_map}
 use Rattle.std.proofs.lemmas.Bool.{cases_lt}

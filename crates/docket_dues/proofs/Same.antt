@@ -1,4 +1,4 @@
--- What holds of a zone holds of any with the same places and bounds. Assumes nothing.
+-- What holds of a zone holds of any with the same places and bounds.
 use Rattle.std.proofs.Common.{◌≡◌, ℕ, zero, suc, ◌<◌, true, cond, ◌&&◌, eqb, List, [], ◌∷◌, map, length, sym, ap, ◌∙◌, subst, arith}
 use Rattle.bounds.specs.Kinds.{Kind}
 use Rattle.bounds.specs.declared.range.Range.{Range}

@@ -1,4 +1,4 @@
--- Answers to all that is due are a certificate. Assumes nothing.
+-- Answers to all that is due are a certificate.
 use Rattle.std.proofs.Common.{◌≡◌, ℕ, zero, suc, ◌<◌, ◌≤◌, true, ◌⊎◌, List, [], length, get_or, sym, subst, inl, inr, ⊎_elim, arith}
 use Rattle.std.proofs.lemmas.List.{get_or-map, length-map}
 use Rattle.bounds.specs.Kinds.{Kind}

@@ -1,4 +1,4 @@
--- The laws of what is due. Assumes nothing.
+-- The laws of what is due.
 use Rattle.std.proofs.Common.{◌≡◌, ℕ, zero, suc, ◌+◌, ◌<◌, ◌≤◌, Bool, true, false, cond, List, [], ◌∷◌, ◌++◌, map, length, sym, refl, ap, ◌∙◌, subst, arith}
 use Rattle.std.proofs.lemmas.List.{append_assoc}
 use Rattle.nets.specs.Nets.{Arc, Net, Every, arcs_of, numbered}

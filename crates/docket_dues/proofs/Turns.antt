@@ -1,4 +1,4 @@
--- One item after the other: with so many answered from the first on, the rest is still due. Assumes nothing.
+-- One item after the other: with so many answered from the first on, the rest is still due.
 use Rattle.std.proofs.Common.{◌≡◌, ℕ, zero, suc, ◌+◌, ◌<◌, List, [], ◌∷◌, ◌++◌, length, take, drop, take-append-drop, drop-drop, length-drop, Option, Some, None, sym, ap, ◌∙◌, subst, arith}
 use Rattle.std.proofs.lemmas.List.{append-nil}
 use Rattle.nets.specs.Nets.{Net, Every}

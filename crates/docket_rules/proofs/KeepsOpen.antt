@@ -1,5 +1,5 @@
 -- Open keeps the docket and the log in agreement.
-use Rattle.std.proofs.Common.{◌≡◌, ℕ, ◌<◌, false, ◌&&◌, eqb, List, [], length, get_or, Ok, Err, Some, None, Option, refl, sym, ap, ◌∙◌, subst, arith}
+use Rattle.std.proofs.Common.{◌≡◌, ℕ, ◌<◌, false, ◌&&◌, List, [], get_or, Ok, Err, Some, None, Option, refl, sym, ap, ◌∙◌, subst, arith}
 use Rattle.std.proofs.lemmas.Bool.{and_parts, true_from_ne_false}
 use Rattle.bounds.specs.Kinds.{Kind}
 use Rattle.docket_dues.specs.Dues.{target_item}

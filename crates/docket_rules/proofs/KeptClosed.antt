@@ -1,9 +1,8 @@
 -- Where a close comes after an open that was taken, the list of zones is closed: the first close after
 -- it is taken, if none was before.
-use Rattle.std.proofs.Common.{◌≡◌, true, false, Bool, List, [], ◌∷◌, is_err, Ok, Err, Some, None, Option, refl, sym, ap, ◌∙◌, subst, ⊎_elim}
+use Rattle.std.proofs.Common.{◌≡◌, true, false, Bool, List, [], ◌∷◌, is_err, Ok, Err, Some, None, Option, refl, sym, ap, ◌∙◌, ⊎_elim}
 use Rattle.std.proofs.lemmas.Bool.{false≢true, true≢false}
 use Rattle.bounds.specs.Kinds.{Kind}
-use Rattle.docket_dues.specs.declared.item.Item.{Item}
 use Rattle.nets.specs.Nets.{Limits, Net}
 use Rattle.docket_refusals.specs.declared.refusal.CallRefusal.{CallRefusal}
 use Rattle.docket_rules.specs.Calls.{Call, Open, Post, Close, Discharge, NextDue, Played, Step}
@@ -11,10 +10,9 @@ use Rattle.docket_rules.specs.Logs.{Log, Opening, proving_stage, stage_said, sti
 use Rattle.docket_rules.specs.Promise.{CloseFollows, Closed, IsClose, IsTakenOpen}
 use Rattle.docket_rules.specs.Tables.{Answers, close_table, is_listing}
 use Rattle.docket_rules.specs.Worlds.{World}
-use Rattle.docket_rules.specs.declared.stage.Stage.TheVariants.{Sealed}
 use Rattle.zones.specs.Safety.{Some as SomeOf}
 use Rattle.docket_rules.proofs.Agrees.{Agrees, AgreesAs}
-use Rattle.docket_rules.proofs.Keeps.{keeps, keeps_all}
+use Rattle.docket_rules.proofs.Keeps.{keeps}
 use Rattle.docket_rules.proofs.KeptTruth.{none_left}
 
 -- an open was taken

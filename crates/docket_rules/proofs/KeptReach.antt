@@ -15,7 +15,7 @@ use Rattle.docket_rules.specs.Promise.{AllVouched, NotTaken, VoucherAllowed, Vou
 use Rattle.docket_rules.specs.Promise.Vouching.{done, vouch, between}
 use Rattle.docket_rules.specs.Tables.{Answer, partners_used}
 use Rattle.docket_rules.specs.Worlds.{State, World, whole, with_scratch}
-use Rattle.docket_rules.specs.declared.stage.Stage.TheVariants.{Blank, Sealed}
+use Rattle.docket_rules.specs.declared.stage.Stage.TheVariants.{Blank}
 use Rattle.zones.specs.Zones.{Zone}
 use Rattle.docket_rules.proofs.Agrees.{Agrees, AgreesAs, AgreesOpened}
 use Rattle.docket_rules.proofs.Keeps.{keeps}

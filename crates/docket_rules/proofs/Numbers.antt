@@ -1,6 +1,5 @@
 -- A refusal and its number: no two refusals have one number.
-use Rattle.std.proofs.Common.{◌≡◌, ℕ, cond, ◌||◌, eqb, Bool, false, Ok, Err, Some, None, Option, is_err, refl, sym, ap, ◌∙◌}
-use Rattle.std.proofs.lemmas.Bool.{false≢true, true≢false}
+use Rattle.std.proofs.Common.{◌≡◌, ℕ, cond, ◌||◌, eqb, Bool, false, Ok, Err, Some, None, Option, refl, sym, ap, ◌∙◌}
 use Rattle.zone_pages.specs.declared.objections.Objection.{Objection}
 use Rattle.zone_pages.specs.declared.objections.Objection.TheVariants.{Partner, Place, Bound}
 use Rattle.docket_records.specs.declared.fault.EntryRefusal.{EntryRefusal}

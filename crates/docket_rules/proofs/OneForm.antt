@@ -1,8 +1,8 @@
 -- What the table of a discharge reads of zones is the same for any two that are normal forms of the
 -- same records.
-use Rattle.std.proofs.Common.{◌≡◌, ℕ, zero, suc, ◌-◌, ◌<◌, ◌≤◌, Bool, true, false, cond, List, [], ◌∷◌, ◌++◌, map, length, get_or, Ok, Err, Result, refl, sym, ap, ◌∙◌, subst, arith}
+use Rattle.std.proofs.Common.{◌≡◌, ℕ, zero, suc, ◌-◌, ◌≤◌, Bool, true, false, cond, List, [], ◌∷◌, ◌++◌, map, length, get_or, Ok, Err, Result, refl, sym, ap, ◌∙◌, subst, arith}
 use Rattle.std.specs.List.{range_with_len}
-use Rattle.std.proofs.lemmas.Bool.{and_parts, false≢true, leb-true, true≢false}
+use Rattle.std.proofs.lemmas.Bool.{and_parts, leb-true, true≢false}
 use Rattle.bounds.specs.Kinds.{Kind}
 use Rattle.docket_dues.specs.Answered.{ItemZone, SameZone, VoidItem, digits, zone_named}
 use Rattle.docket_dues.specs.declared.item.Item.{Item}
@@ -10,7 +10,7 @@ use Rattle.docket_dues.proofs.Lists.{number_every}
 use Rattle.docket_dues.proofs.Same.{delay_same, firing_same, void_same, voucher_same}
 use Rattle.docket_records.specs.declared.voucher.Voucher.{Voucher}
 use Rattle.nets.specs.Nets.{Every, Net, transition_of}
-use Rattle.docket_rules.specs.Tables.{Against, Answer, Answers, Asks, IsVoidItem, discharge_rules, discharge_table, due_in, item_rules, pairing_of}
+use Rattle.docket_rules.specs.Tables.{Against, Answer, Answers, discharge_rules, discharge_table, due_in, item_rules, pairing_of}
 use Rattle.docket_rules.specs.Worlds.{State, in_list, listed_count, listed_zones}
 use Rattle.zone_pages.proofs.Comparison.{none_lacks, vouches_from}
 use Rattle.zone_pages.specs.Comparison.{bound_exceeds, partners_unsound, places_differ}
@@ -136,14 +136,29 @@ module _ {B : Type 0} (kind : Kind B) where
         let to = void_there s zones other same net d.zone d.transition d.matching in
         let from = void_there s other zones back net d.zone d.transition d.matching in
         let there = against_there s zones other same net d v in
-        let here = against_there s other zones back net d v in
-        (refl, ((λ h. (h.0, λ void. h.1 (from void))), (λ h. (h.0, λ void. h.1 (to void)))), λ not_27.
-        (refl, ((λ h. (h.0, to h.1)), (λ h. (h.0, from h.1))), λ not_28.
-        (refl, ((λ h. h), (λ h. h)), λ not_29.
-        let few = (λ (named : v.void ≡ false). inside v (λ out. not_29 (named, out))) in
-        (refl, ((λ h. (h.0, there Partner (few h.0) h.1)), (λ h. (h.0, here Partner (few h.0) h.1))), λ not_30.
-        (refl, ((λ h. (h.0, there Place (few h.0) h.1)), (λ h. (h.0, here Place (few h.0) h.1))), λ not_31.
-        (refl, ((λ h. (h.0, there Bound (few h.0) h.1)), (λ h. (h.0, here Bound (few h.0) h.1))), λ not_32. tt))))))
+        let here = against_there s other zones back net d v in (
+          refl,
+          ((λ h. (h.0, λ void. h.1 (from void))), (λ h. (h.0, λ void. h.1 (to void)))),
+          λ not_27. (
+            refl,
+            ((λ h. (h.0, to h.1)), (λ h. (h.0, from h.1))),
+            λ not_28. (
+              refl,
+              ((λ h. h), (λ h. h)),
+              λ not_29.
+                  let few = (λ (named : v.void ≡ false). inside v (λ out. not_29 (named, out))) in (
+                    refl,
+                    ((λ h. (h.0, there Partner (few h.0) h.1)), (λ h. (h.0, here Partner (few h.0) h.1))),
+                    λ not_30. (
+                      refl,
+                      ((λ h. (h.0, there Place (few h.0) h.1)), (λ h. (h.0, here Place (few h.0) h.1))),
+                      λ not_31.
+                          (refl, ((λ h. (h.0, there Bound (few h.0) h.1)), (λ h. (h.0, here Bound (few h.0) h.1))), λ not_32. tt),
+                    ),
+                  ),
+            ),
+          ),
+        )
 
     pub discharge_alike : (sized : Bool) (bytes : List ℕ) (answer : Answer) → Answers (discharge_table kind net s sized zones bytes) answer → Answers (discharge_table kind net s sized other bytes) answer
     discharge_alike sized bytes answer h =

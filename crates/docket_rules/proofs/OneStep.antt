@@ -7,9 +7,9 @@ use Rattle.docket_dues.specs.declared.item.Item.{Item}
 use Rattle.docket_records.specs.ZoneRecords.{zone_of}
 use Rattle.nets.specs.Nets.{Net}
 use Rattle.docket_rules.specs.Calls.{BookKept, Call, Open, Post, Close, Discharge, Discharged, Opened, Posted, Step, most_taken, stage_of}
-use Rattle.docket_rules.specs.Logs.{Log, state_said}
+use Rattle.docket_rules.specs.Logs.{state_said}
 use Rattle.docket_rules.specs.Promise.{Promise}
-use Rattle.docket_rules.specs.Reached.{ReachedByCalls, Sharp}
+use Rattle.docket_rules.specs.Reached.{Sharp}
 use Rattle.docket_rules.specs.Tables.{Answer, Given, close_table, discharge_table, due_in, open_table, post_table}
 use Rattle.docket_rules.specs.Worlds.{State, World, listed_pages, page_of, whole, with_scratch}
 use Rattle.zones.specs.Zones.{Zone}

@@ -26,7 +26,7 @@ use Rattle.docket_rules.specs.Worlds.{with_scratch}
 use Rattle.docket_rules.specs.declared.stage.Stage.{Stage}
 use Rattle.docket_rules.specs.declared.stage.Stage.TheVariants.{Blank, Listing, Proving, Sealed}
 use Rattle.zone_walks.specs.Walks.{Matrix}
-use Rattle.zones.specs.Zones.{Zone, InNormalForm, NormalOf, SizedZone}
+use Rattle.zones.specs.Zones.{Zone, NormalOf}
 
 -- ---- the scratch page
 -- after a call in the wrong stage, with memory of another length or with a full list it is

@@ -10,10 +10,11 @@
 --               docket is sealed exactly when nothing is still due
 -- A step is what the contracts of the five calls say: that a call answers at all, what it leaves in
 -- the scratch page, and that a refusal changes nothing stand there, and not here.
-use Rattle.std.specs.Prelude.{◌≡◌, ℕ, Bool, true, false, ◌||◌, ◌⊎◌, ◌↔◌, List, [], ◌∷◌, length, Ok}
+use Rattle.std.specs.Prelude.{◌≡◌, ℕ, Bool, true, false, ◌⊎◌, ◌↔◌, List, [], ◌∷◌, length, Ok}
 use Rattle.std.specs.Prelude.{Err, Some, None, Option, IsTrue, IsFalse}
 use Rattle.bounds.specs.Kinds.{Kind}
 use Rattle.docket_dues.specs.declared.item.Item.{Item}
+use Rattle.docket_records.specs.Records.{voucher_size}
 use Rattle.docket_records.specs.Vouchers.{voucher_of}
 use Rattle.docket_records.specs.declared.voucher.Voucher.{Voucher}
 use Rattle.zone_markings.specs.Initial.{marking_of}
@@ -64,8 +65,8 @@ ByRules kind net log book (Discharge voucher scratch answer) =
 ByRules kind net log book (NextDue answer) = answer ≡ due_said net log log.closed
 
 -- ---- reach
--- the voucher is allowed for the item: it claims a void item void, or names a listed zone and a
--- pairing through which that zone vouches for what the item asks
+-- the voucher answers the item: where the item is void it says so, and where it is not, the page of
+-- the zone in its list vouches, with the partners that it gives, for what is asked
 abbrev pub VoucherFits : {B : Type 0} → Kind B → Net B → State → (zones : ℕ → Zone B) → Item →
     Voucher → Bool → Type 0
 VoucherFits kind net s zones d v true = IsVoidItem kind net s zones d
@@ -78,7 +79,7 @@ VoucherFits kind net s zones d v false =
 
 pub record VoucherAllowed {B : Type 0} (kind : Kind B) (net : Net B) (s : State)
     (zones : ℕ → Zone B) (d : Item) (bytes : List ℕ) : Type 0 where
-  pub size : length bytes ≡ 6
+  pub size : length bytes ≡ voucher_size
   pub clean : IsFalse (stray_set s bytes)
   pub vouches : VoucherFits kind net s zones d (voucher_of bytes) (voucher_of bytes).void
 

@@ -15,6 +15,7 @@ use Rattle.bounds.specs.Kinds.{Kind}
 use Rattle.docket_dues.specs.Answered.{ItemZone, VoidItem}
 use Rattle.docket_dues.specs.Dues.{target_item}
 use Rattle.docket_dues.specs.declared.item.Item.{Item}
+use Rattle.docket_records.specs.Records.{voucher_size}
 use Rattle.docket_records.specs.Vouchers.{unused_set, voucher_of, voucher_spare}
 use Rattle.docket_records.specs.ZoneRecords.{mark_under_plain, no_such_place, not_zero, too_many}
 use Rattle.docket_records.specs.ZoneRecords.{wrong_length, zone_of}
@@ -149,7 +150,7 @@ post_table kind net s sized zone =
 abbrev pub close_table : State → List Rule
 close_table s = rule 40 (IsFalse (is_listing s.stage)) ∷ []
 
--- ---- discharge: six bytes for the first item that is due
+-- ---- discharge: a voucher for the first item that is due
 -- how many partners a voucher uses: one for each token of its listed zone; one outside the list
 -- uses all eight
 abbrev pub partners_used : State → Voucher → ℕ
@@ -165,7 +166,7 @@ stray_set s bytes =
 
 abbrev pub voucher_rules : State → (bytes : List ℕ) → List Rule
 voucher_rules s bytes =
-    rule 20 (IsFalse (length bytes == 6))
+    rule 20 (IsFalse (length bytes == voucher_size))
     ∷ rule 21 (IsTrue (stray_set s bytes))
     ∷ []
 

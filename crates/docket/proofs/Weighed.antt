@@ -4,7 +4,7 @@ use Rattle.std.proofs.lemmas.Bool.{and_parts, both_ways, cond-false, eqb-true, t
 use Rattle.arrayvec.specs.ArrayVec.{ArrayVec}
 use Rattle.bounds.specs.Kinds.{Kind}
 use Rattle.zone_cells.specs.Sizes.{draft_cells}
-use Rattle.docket.specs.Discharging.{Advanced, Weighed, judged, voucher_read}
+use Rattle.docket.specs.Discharging.{Advanced, Weighed, Worked, Works, judged, voucher_read}
 use Rattle.docket.proofs.Judged.{judged_answered, judged_answers, judged_late}
 use Rattle.docket.proofs.Named.{item_due, item_held}
 use Rattle.docket_dues.specs.Answered.{Answered, places_of_all, zone_named}
@@ -13,7 +13,7 @@ use Rattle.docket_dues.specs.declared.item.Item.{Item}
 use Rattle.docket_records.specs.Vouchers.{unused_set, voucher_of, voucher_spare}
 use Rattle.docket_records.specs.declared.fault.EntryRefusal.TheVariants.{WrongLength, NotZero}
 use Rattle.docket_records.specs.declared.voucher.Voucher.{Voucher}
-use Rattle.docket_items.specs.Made.{PageHolds, ItemAnswer, ZoneMade}
+use Rattle.docket_items.specs.Made.{PageHolds, ItemAnswer, StepBack, ZoneMade, loaded}
 use Rattle.nets.specs.Nets.{Net}
 use Rattle.docket_refusals.specs.declared.refusal.CallRefusal.{CallRefusal}
 use Rattle.docket_rules.specs.Calls.{Discharges, Left, Sound, is_early}
@@ -54,6 +54,12 @@ module _ {B : Type 0} (kind : Kind B) (net : Net B) (w : World B) (bytes : List 
         record {
           kept = made.kept;
           late = ap is_early judges ∙ judged_late kind w v after asked;
+          worked = subst (λ said. Worked kind net w d before said answer) (sym read) (record {
+            draft = after;
+            asked = asked;
+            step = subst (λ c. StepBack kind net (places_at w d.zone) d.zone d.transition d.matching (loaded kind (places_at w d.zone) c before) after asked) cells_are (subst (λ p. StepBack kind net p d.zone d.transition d.matching (loaded kind p cells before) after asked) places_are made.step);
+            answer_is = judges;
+          });
           begins = inr (λ h. both_ways (eqb (length bytes) 6) h said.long, inr (λ h. both_ways _ said.clean h, tt));
           answers = λ proving full sound.
               inr (
@@ -73,6 +79,10 @@ module _ {B : Type 0} (kind : Kind B) (net : Net B) (w : World B) (bytes : List 
 
     full : length lent ≡ draft_cells
     full = eqb-true (length lent) draft_cells (and_parts (book_whole w) _ is_whole).1
+
+    pub call_works : (answer : Answer) → Weighed kind net w bytes d lent worked answer → Works kind net bytes before answer
+    call_works answer by e stage sized =
+        subst (λ i. Worked kind net w i lent (voucher_read w.state bytes) answer) (ap due_in (sym proving ∙ stage)) by.worked
 
     module _ (answer : Answer) (by : Weighed kind net w bytes d lent worked answer) where
       call_begins : Begins (discharge_rules w.state (whole before) bytes) answer

@@ -1,7 +1,27 @@
 -- What one voucher for one item comes to, once the stage and the lent memory are right.
 --     item      the first that is due
 --     draft     the scratch page with the zone that the item asks for
-use Rattle.std.specs.Prelude.{◌≡◌, ℕ, ◌+◌, false, if◌then◌else◌, not, ◌||◌, List, ◌++◌, length, Ok, Err, Result, Some, None, Option, ◌==◌, min}
+use Rattle.std.specs.Prelude.{
+  ◌≡◌,
+  ℕ,
+  ◌+◌,
+  false,
+  if◌then◌else◌,
+  not,
+  ◌||◌,
+  List,
+  ◌++◌,
+  length,
+  Ok,
+  Err,
+  Result,
+  IsTrue,
+  Some,
+  None,
+  Option,
+  ◌==◌,
+  min,
+}
 use Rattle.arrayvec.specs.ArrayVec.{ArrayVec}
 use Rattle.zone_pages.specs.Objections.{objection_of}
 use Rattle.zone_pages.specs.declared.objections.Objection.{Objection}
@@ -12,15 +32,41 @@ use Rattle.zone_cells.specs.Sizes.{draft_cells}
 use Rattle.docket_dues.specs.Answered.{Answered, places_of_all}
 use Rattle.docket_dues.specs.Dues.{Leads}
 use Rattle.docket_dues.specs.declared.item.Item.{Item}
+use Rattle.docket_items.specs.Made.{StepBack, loaded}
 use Rattle.docket_records.specs.Vouchers.{unused_set, voucher_of, voucher_spare}
 use Rattle.docket_records.specs.declared.fault.EntryRefusal.{EntryRefusal}
 use Rattle.docket_records.specs.declared.fault.EntryRefusal.TheVariants.{WrongLength, NotZero}
 use Rattle.docket_records.specs.declared.voucher.Voucher.{Voucher}
 use Rattle.nets.specs.Nets.{Net}
-use Rattle.docket_refusals.specs.declared.refusal.CallRefusal.TheVariants.{NotVoid, VoidItem as IsVoid, NoSuchZone, Objected}
+use Rattle.docket_refusals.specs.declared.refusal.CallRefusal.TheVariants.{
+  Entry,
+  NotVoid,
+  VoidItem as IsVoid,
+  NoSuchZone,
+  Objected,
+}
 use Rattle.docket_rules.specs.Calls.{Sound, is_early, most_taken, stage_of}
-use Rattle.docket_rules.specs.Tables.{Answer, Answers, Begins, item_rules, pairing_of, partners_used, voucher_rules}
-use Rattle.docket_rules.specs.Worlds.{State, World, in_list, listed_pages, page_of}
+use Rattle.docket_rules.specs.Tables.{
+  Answer,
+  Answers,
+  Begins,
+  Rule,
+  item_rules,
+  pairing_of,
+  partners_used,
+  voucher_rules,
+}
+use Rattle.docket_rules.specs.Worlds.{
+  Lent,
+  State,
+  World,
+  cells_at,
+  in_list,
+  listed_pages,
+  page_of,
+  places_at,
+  whole,
+}
 use Rattle.docket_rules.specs.declared.stage.Stage.TheVariants.{Proving}
 use Rattle.zones.specs.Zones.{Zone}
 
@@ -28,11 +74,13 @@ use Rattle.zones.specs.Zones.{Zone}
 abbrev pub voucher_read : State → (bytes : List ℕ) → Result Voucher EntryRefusal
 voucher_read s bytes =
     if not (length bytes == 6) then Err WrongLength
-    else if voucher_spare bytes || unused_set (voucher_of bytes) (partners_used s (voucher_of bytes)) then Err NotZero
+    else if voucher_spare bytes || unused_set (voucher_of bytes) (partners_used s (voucher_of bytes))
+    then Err NotZero
     else Ok (voucher_of bytes)
 
 -- what stands against the zone that the voucher names, as one that vouches for a zone
-abbrev pub objection_to : {B : Type 0} → Kind B → World B → Voucher → (asked : Zone B) → Result (Unit {0}) Objection
+abbrev pub objection_to : {B : Type 0} → Kind B → World B → Voucher → (asked : Zone B) →
+    Result (Unit {0}) Objection
 objection_to kind w v asked = objection_of kind (page_of kind w v.zone) asked (pairing_of w.state v)
 
 -- the zone in a draft that a page is to vouch for
@@ -43,23 +91,58 @@ abbrev pub objected : Result (Unit {0}) Objection → Answer
 objected (Ok u) = Ok tt
 objected (Err o) = Err (Objected o)
 
--- the answer to a voucher for an item that asks for a zone with these tokens in the draft, or for none as it is void
-abbrev pub judged : {B : Type 0} → Kind B → World B → Voucher → (draft : List B) → Option (ArrayVec ℕ) → Answer
+-- the answer to a voucher for an item that asks for a zone with these tokens in the draft, or for
+-- none as it is void
+abbrev pub judged : {B : Type 0} → Kind B → World B → Voucher → (draft : List B) →
+    Option (ArrayVec ℕ) → Answer
 judged kind w v draft None = if v.void then Ok tt else Err IsVoid
 judged kind w v draft (Some tokens) =
     if v.void then Err NotVoid
-    else if in_list w.state v.zone then objected (objection_to kind w v (draft_zone kind tokens.items draft))
+    else if in_list w.state v.zone
+    then objected (objection_to kind w v (draft_zone kind tokens.items draft))
     else Err NoSuchZone
 
-pub record Weighed {B : Type 0} (kind : Kind B) (net : Net B) (w : World B) (bytes : List ℕ) (d : Item) (before after : List B) (answer : Answer) : Type 0 where
+-- the answer by the cells as they are, whatever the pages hold: the step back from the item's page
+-- leaves this draft and these tokens
+pub record Judges {B : Type 0} (kind : Kind B) (net : Net B) (w : World B) (d : Item)
+    (scratch : List B) (v : Voucher) (answer : Answer) : Type 0 where
+  pub draft : List B
+  pub asked : Option (ArrayVec ℕ)
+  pub step : StepBack kind net (places_at w d.zone) d.zone d.transition d.matching
+      (loaded kind (places_at w d.zone) (cells_at w d.zone) scratch) draft asked
+  pub answer_is : answer ≡ judged kind w v draft asked
+
+abbrev pub Worked : {B : Type 0} → Kind B → Net B → World B → Item → (scratch : List B) →
+    Result Voucher EntryRefusal → Answer → Type 0
+Worked kind net w d scratch (Ok v) answer = Judges kind net w d scratch v answer
+Worked kind net w d scratch (Err r) answer = answer ≡ Err (Entry r)
+
+abbrev pub weigh_rules : {B : Type 0} → Kind B → Net B → World B → Item → (bytes : List ℕ) → List Rule
+weigh_rules kind net w d bytes =
+    voucher_rules w.state bytes
+    ++ item_rules kind net w.state (page_of kind w) d (voucher_of bytes)
+
+pub record Weighed {B : Type 0} (kind : Kind B) (net : Net B) (w : World B) (bytes : List ℕ)
+    (d : Item) (before after : List B) (answer : Answer) : Type 0 where
   pub kept : length after ≡ length before
   pub late : is_early answer ≡ false
   pub begins : Begins (voucher_rules w.state bytes) answer
-  pub answers : w.state.stage ≡ Proving d → length before ≡ draft_cells → Sound kind net w → Answers (voucher_rules w.state bytes ++ item_rules kind net w.state (page_of kind w) d (voucher_of bytes)) answer
-  pub answered : w.state.stage ≡ Proving d → length before ≡ draft_cells → Sound kind net w → answer ≡ Ok tt → Answered kind net (page_of kind w 0) (listed_pages kind w) d
+  pub worked : Worked kind net w d before (voucher_read w.state bytes) answer
+  pub answers : w.state.stage ≡ Proving d → length before ≡ draft_cells → Sound kind net w →
+      Answers (weigh_rules kind net w d bytes) answer
+  pub answered : w.state.stage ≡ Proving d → length before ≡ draft_cells → Sound kind net w →
+      answer ≡ Ok tt → Answered kind net (page_of kind w 0) (listed_pages kind w) d
+
+-- of a call in proving, with lent memory of its lengths
+abbrev pub Works : {B : Type 0} → Kind B → Net B → (bytes : List ℕ) → Lent B → Answer → Type 0
+Works kind net bytes before answer =
+    (d : Item) → before.world.state.stage ≡ Proving d → IsTrue (whole before) →
+    Worked kind net before.world d before.scratch (voucher_read before.world.state bytes) answer
 
 -- the item that follows is due, or the docket is sealed, and one voucher more is taken
-pub record Advanced {B : Type 0} (kind : Kind B) (net : Net B) (w : World B) (d : Item) (after : State) : Type 0 where
+pub record Advanced {B : Type 0} (kind : Kind B) (net : Net B) (w : World B) (d : Item)
+    (after : State) : Type 0 where
   pub next : Option Item
   pub leads : Leads net (places_of_all (listed_pages kind w)) d next
-  pub state : after ≡ record w.state { stage = stage_of next; taken = min (w.state.taken + 1) most_taken }
+  pub state : after ≡
+      record w.state { stage = stage_of next; taken = min (w.state.taken + 1) most_taken }

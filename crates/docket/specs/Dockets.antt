@@ -38,28 +38,33 @@ with_part start size items old = take start old ++ (items ++ drop (start + size)
 
 -- ---- open and post
 -- the answer to an open, with the lent memory before it
-abbrev pub OpenAnswers : {B : Type 0} → Kind B → Net B → Given → (target : List ℕ) → Lent B → Answer → Type 0
+abbrev pub OpenAnswers : {B : Type 0} → Kind B → Net B → Given → (target : List ℕ) → Lent B →
+    Answer → Type 0
 OpenAnswers kind net g target before answer =
     Answers (open_table kind net before.world.state (whole before) g target) answer
 
 -- the rules of a table in their order, what then stands, and that a refusal changes nothing
-pub record Tried {X : Type 0} (rows : List Rule) (Taken : Type 0) (before after : X) (answer : Answer) : Type 0 where
+pub record Tried {X : Type 0} (rows : List Rule) (Taken : Type 0) (before after : X)
+    (answer : Answer) : Type 0 where
   pub answers : Answers rows answer
   pub refused : (r : CallRefusal) → answer ≡ Err r → after ≡ before
   pub taken : answer ≡ Ok tt → Taken
 
-abbrev pub TriesOpen : {B : Type 0} → Kind B → (net_places : ℕ) → Given → (target : List ℕ) → World B → World B → Answer → Type 0
+abbrev pub TriesOpen : {B : Type 0} → Kind B → (net_places : ℕ) → Given → (target : List ℕ) →
+    World B → World B → Answer → Type 0
 TriesOpen kind net_places g target before after answer =
     Tried (initial_rules net_places g ++ record_rules kind net_places target)
     (Opened kind g (zone_of kind target) before after) before after answer
 
 -- the rules of a listed zone, the last where the initial marking satisfies it
-abbrev pub zone_rules : {B : Type 0} → Kind B → (net_places : ℕ) → (zone : List ℕ) → State → List Rule
+abbrev pub zone_rules : {B : Type 0} → Kind B → (net_places : ℕ) → (zone : List ℕ) → State →
+    List Rule
 zone_rules kind net_places zone s =
     record_rules kind net_places zone
     ++ rule 26 (Satisfies kind 1 (zone_of kind zone) (marking_of s.initial)) ∷ []
 
-abbrev pub TriesPost : {B : Type 0} → Kind B → (net_places : ℕ) → (zone : List ℕ) → World B → World B → Answer → Type 0
+abbrev pub TriesPost : {B : Type 0} → Kind B → (net_places : ℕ) → (zone : List ℕ) → World B →
+    World B → Answer → Type 0
 TriesPost kind net_places zone before after answer =
     Tried (zone_rules kind net_places zone before.state)
     (Posted kind (zone_of kind zone) before after) before after answer

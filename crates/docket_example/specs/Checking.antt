@@ -1,7 +1,26 @@
--- What the check of a certificate answers: what the rules of a docket make of its entries, with one call for each.
+-- What the check of a certificate answers: what the rules of a docket make of its entries, with one
+-- call for each.
 --     entry     the opening, a listed zone, the end of the list, or a voucher
 --     log       what the calls that were taken have given
-use Rattle.std.specs.Prelude.{◌≡◌, ℕ, ◌<◌, true, false, List, [], ◌∷◌, map, length, take, replicate, Ok, Err, Some, Result, slice_index_or}
+use Rattle.std.specs.Prelude.{
+  ◌≡◌,
+  ℕ,
+  ◌<◌,
+  true,
+  false,
+  List,
+  [],
+  ◌∷◌,
+  map,
+  length,
+  take,
+  replicate,
+  Ok,
+  Err,
+  Some,
+  Result,
+  slice_index_or,
+}
 use Rattle.net_handover.specs.HandoverNet.{handover_net}
 use Rattle.net_handover.specs.declared.Handover.{Handover}
 use Rattle.nets.specs.Markings.{Marking}
@@ -11,7 +30,12 @@ use Rattle.docket_dues.specs.declared.item.Item.{Item}
 use Rattle.docket_records.specs.ZoneRecords.{zone_of}
 use Rattle.docket_example.specs.declared.certificate.Certificate.{Certificate}
 use Rattle.docket_example.specs.declared.checking.Entry.{Entry}
-use Rattle.docket_example.specs.declared.checking.Entry.TheVariants.{Opening as InOpening, Zone as InZone, ListEnd, Voucher}
+use Rattle.docket_example.specs.declared.checking.Entry.TheVariants.{
+  Opening as InOpening,
+  Zone as InZone,
+  ListEnd,
+  Voucher,
+}
 use Rattle.docket_example.specs.declared.checking.Refused.{Refused}
 use Rattle.docket_example.specs.declared.checking.Verdict.{Verdict}
 use Rattle.docket_example.specs.declared.checking.Verdict.TheVariants.{Sealed, StillDue}
@@ -46,11 +70,21 @@ initial_marking c = marking_of (initial_tokens (given_by c))
 -- ---- what the entries before one have given
 -- the opening and so many zones
 abbrev pub listing : Certificate → ℕ → Log PlainBound
-listing c n = record { opening = Some (opening_of c); listed = map (zone_of plain_kind) (take n c.zones.now); closed = false; taken = 0 }
+listing c n =
+    record no_log {
+      opening = Some (opening_of c);
+      listed = map (zone_of plain_kind) (take n c.zones.now);
+    }
 
 -- the opening, all zones, the end of the list and so many vouchers
 abbrev pub proving : Certificate → ℕ → Log PlainBound
-proving c n = record { opening = Some (opening_of c); listed = map (zone_of plain_kind) c.zones.now; closed = true; taken = n }
+proving c n =
+    record {
+      opening = Some (opening_of c);
+      listed = map (zone_of plain_kind) c.zones.now;
+      closed = true;
+      taken = n;
+    }
 
 abbrev pub log_before : Certificate → Entry → Log PlainBound
 log_before c InOpening = no_log
@@ -80,8 +114,10 @@ at_entry entry (Ok u) = Ok u
 at_entry entry (Err refusal) = Err (record { entry = entry; refusal = refusal })
 
 -- ---- the answer
--- calls from the blank docket lead here, over a book of the stated lengths, and this is the log of them
-pub record EntryStands (net : Net PlainBound) (log : Log PlainBound) (w : World PlainBound) : Type 0 where
+-- calls from the blank docket lead here, over a book of the stated lengths, and this is the log of
+-- them
+pub record EntryStands (net : Net PlainBound) (log : Log PlainBound)
+    (w : World PlainBound) : Type 0 where
   pub reached : ReachedByCalls plain_kind net log w
   pub cells : length w.cells ≡ book_cells
   pub places : length w.places ≡ book_places

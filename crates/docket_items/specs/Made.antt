@@ -1,5 +1,18 @@
 -- The zone of an item, made in a draft from the page of the item's zone.
-use Rattle.std.specs.Prelude.{◌≡◌, ℕ, zero, suc, List, [], length, Some, None, Option, if◌then◌else◌, nat_le}
+use Rattle.std.specs.Prelude.{
+  ◌≡◌,
+  ℕ,
+  zero,
+  suc,
+  List,
+  [],
+  length,
+  Some,
+  None,
+  Option,
+  if◌then◌else◌,
+  nat_le,
+}
 use Rattle.arrayvec.specs.ArrayVec.{ArrayVec}
 use Rattle.bounds.specs.Kinds.{Kind}
 use Rattle.zone_cells.specs.Cells.{in_page, written}
@@ -9,7 +22,14 @@ use Rattle.zone_drafts.specs.Backwards.{DelayedBack, FiredBack}
 use Rattle.zone_pages.specs.Books.{page_points}
 use Rattle.nets.specs.Nets.{Net, transition_of}
 use Rattle.zones.specs.Zones.{Zone}
-use Rattle.docket_dues.specs.Answered.{SameZone, ItemZone, VoidItem, digits, places_of_all, zone_named}
+use Rattle.docket_dues.specs.Answered.{
+  SameZone,
+  ItemZone,
+  VoidItem,
+  digits,
+  places_of_all,
+  zone_named,
+}
 use Rattle.docket_dues.specs.DueLaws.{IsDue}
 use Rattle.docket_dues.specs.declared.item.Item.{Item}
 
@@ -34,7 +54,8 @@ StepBack kind net page_places (suc zone) (suc t) n draft after answer =
 
 -- ---- for an item that is due, and its page
 -- the page holds the zone, in the form that pages have
-pub record PageHolds {B : Type 0} (kind : Kind B) (z : Zone B) (page_places : List ℕ) (page : List B) : Type 0 where
+pub record PageHolds {B : Type 0} (kind : Kind B) (z : Zone B) (page_places : List ℕ)
+    (page : List B) : Type 0 where
   pub same : SameZone z (page_zone kind page_places page)
   pub formed : PageFormed kind z
 
@@ -47,7 +68,11 @@ ItemAnswer kind net target listed d draft (Some tokens) =
     ItemZone kind net target listed d.zone d.transition d.matching
     (draft_zone kind tokens.items draft)
 
-pub record ZoneMade {B : Type 0} (kind : Kind B) (net : Net B) (page_places : List ℕ) (page : List B) (d : Item) (before after : List B) (answer : Option (ArrayVec ℕ)) : Type 0 where
+pub record ZoneMade {B : Type 0} (kind : Kind B) (net : Net B) (page_places : List ℕ)
+    (page : List B) (d : Item) (before after : List B) (answer : Option (ArrayVec ℕ)) : Type 0 where
   pub kept : length after ≡ length before
   pub step : StepBack kind net page_places d.zone d.transition d.matching (loaded kind page_places page before) after answer
-  pub answered : (target : Zone B) (listed : List (Zone B)) → length before ≡ draft_cells → IsDue net (places_of_all listed) d → PageHolds kind (zone_named target listed d.zone) page_places page → ItemAnswer kind net target listed d after answer
+  pub answered : (target : Zone B) (listed : List (Zone B)) → length before ≡ draft_cells →
+      IsDue net (places_of_all listed) d →
+      PageHolds kind (zone_named target listed d.zone) page_places page →
+      ItemAnswer kind net target listed d after answer

@@ -1,6 +1,21 @@
--- What follows an item: a later matching of its firing, else a later transition of its zone, else the
+-- What follows an item: a later matching of its firing, else a later transition of its zone, else
+-- the
 -- first item of a later zone.
-use Rattle.std.specs.Prelude.{◌≡◌, ℕ, ◌+◌, ◌≤◌, ◌&&◌, List, [], length, Some, None, Option, if◌then◌else◌, nat_lt}
+use Rattle.std.specs.Prelude.{
+  ◌≡◌,
+  ℕ,
+  ◌+◌,
+  ◌≤◌,
+  ◌&&◌,
+  List,
+  [],
+  length,
+  Some,
+  None,
+  Option,
+  if◌then◌else◌,
+  nat_lt,
+}
 use Rattle.std.specs.Option.{option_or}
 use Rattle.zone_matchings.specs.Next.{Next}
 use Rattle.nets.specs.Nets.{Net, arcs_of, numbered}
@@ -18,7 +33,8 @@ pub record Later {B : Type 0} (net : Net B) (places : List ℕ) (d later : Item)
   pub next : Next (is_matching places (arcs_of net d.transition Output)) d.matching (Some later.matching)
 
 abbrev pub LaterMatching : {B : Type 0} → Net B → (places : List ℕ) → Item → Option Item → Type 0
-LaterMatching net places d None = 1 ≤ d.zone → 1 ≤ d.transition → Next (is_matching places (arcs_of net d.transition Output)) d.matching None
+LaterMatching net places d None = 1 ≤ d.zone → 1 ≤ d.transition → Next
+    (is_matching places (arcs_of net d.transition Output)) d.matching None
 LaterMatching net places d (Some later) = Later net places d later
 
 -- the first matching of every transition is 0
@@ -32,7 +48,8 @@ abbrev pub later_zone : (zones : ℕ) → Item → Option Item
 later_zone zones d = if nat_lt d.zone zones then Some (delay_item (d.zone + 1)) else None
 
 -- the first of the three that there is
-pub record Follows {B : Type 0} (net : Net B) (zones : ℕ) (places : List ℕ) (d : Item) (answer : Option Item) : Type 0 where
+pub record Follows {B : Type 0} (net : Net B) (zones : ℕ) (places : List ℕ) (d : Item)
+    (answer : Option Item) : Type 0 where
   pub matching : Option Item
   pub later : LaterMatching net places d matching
   pub is : answer ≡ option_or (option_or matching (later_transition net d)) (later_zone zones d)

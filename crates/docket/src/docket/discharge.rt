@@ -1,5 +1,5 @@
 // One voucher for the first item that is due, and the pages that it speaks of.
-ghost use Rattle.docket.specs.Discharging.{Advanced, Weighed, asked_zone, judged, objection_to, voucher_read};
+ghost use Rattle.docket.specs.Discharging.{Advanced, Weighed, Works, asked_zone, judged, objection_to, voucher_read};
 ghost use Rattle.docket.specs.Dockets.{world_over};
 ghost use Rattle.docket_rules.specs.Calls.{Discharges};
 ghost use Rattle.docket_rules.specs.Promise.{Promise};
@@ -150,8 +150,10 @@ impl Docket {
         scratch: &mut [B],
         voucher: &[u8],
     ) -> Result<(), CallRefusal>
-        ensures { Discharges B.Bound.kind (N.NetStore.net store.now) voucher.now
+        ensures step { Discharges B.Bound.kind (N.NetStore.net store.now) voucher.now
             (lent self.old cells.now places.now scratch.old) self.new scratch.new result }
+        ensures worked { Works B.Bound.kind (N.NetStore.net store.now) voucher.now
+            (lent self.old cells.now places.now scratch.old) result }
     {
         let Stage::Proving(item) = self.stage else {
             return Err(CallRefusal::WrongStage);
@@ -179,6 +181,8 @@ impl Docket {
     ) -> Result<(), CallRefusal>
         ensures step { Discharges B.Bound.kind (N.NetStore.net store.now) voucher.now
             (lent self.old cells.now places.now scratch.old) self.new scratch.new result }
+        ensures worked { Works B.Bound.kind (N.NetStore.net store.now) voucher.now
+            (lent self.old cells.now places.now scratch.old) result }
         ensures promise { Promise B.Bound.kind (N.NetStore.net store.now) }
     {
         store.keeps_limits();

@@ -7,7 +7,7 @@ use Rattle.nets.specs.Markings.{Marking}
 use Rattle.nets.specs.Nets.{Net, Every, arcs_of, numbered, transition_of}
 use Rattle.nets.specs.declared.side.Side.TheVariants.{Output}
 use Rattle.zones.specs.Predecessors.{DelayPredecessor, FiringPredecessor, Void, digits_of}
-use Rattle.zones.specs.Safety.{Apart, Vouched}
+use Rattle.zones.specs.Safety.{Apart, Certificate, Safe, Vouched, starts_at}
 use Rattle.zones.specs.Zones.{Zone, SizedZone, points}
 use Rattle.docket_dues.specs.Dues.{all_due}
 use Rattle.docket_dues.specs.declared.item.Item.{Item}
@@ -67,3 +67,16 @@ pub record AllAnswered {B : Type 0} (kind : Kind B) (net : Net B) (starts : ℕ 
   pub small : Every (SizedZone kind largest_size) listed
   pub apart : Every (Apart kind starts) listed
   pub answered : Every (Answered kind net target listed) (all_due net (places_of_all listed))
+
+-- ---- what it is for: answers to all that is due are a certificate, and so show the target safe
+abbrev pub AnswersCertify : {B : Type 0} → Kind B → Net B → Type 0
+AnswersCertify kind net =
+    (initial : Marking) (target : Zone _) (listed : List (Zone _)) →
+    AllAnswered kind net (starts_at initial) target listed →
+    Certificate kind net (starts_at initial) target listed
+
+abbrev pub AnswersShowSafe : {B : Type 0} → Kind B → Net B → Type 0
+AnswersShowSafe kind net =
+    (initial : Marking) (target : Zone _) (listed : List (Zone _)) →
+    AllAnswered kind net (starts_at initial) target listed →
+    Safe kind net (starts_at initial) target

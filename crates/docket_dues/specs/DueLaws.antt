@@ -39,4 +39,5 @@ pub record DueLaws {B : Type 0} (net : Net B) (listed : List (List ℕ)) : Type 
   -- none twice: wherever an item stands, the same follows it
   pub rest : (before rest : List Item) (d : Item) → all_due net listed ≡ before ++ (d ∷ rest) →
       rest ≡ due_after net listed d
-  pub few : length (all_due net listed) ≤ 1 + length listed * (1 + length net.transitions * matching_numbers)
+  pub few : length (all_due net listed) ≤
+      1 + length listed * (1 + length net.transitions * matching_numbers)

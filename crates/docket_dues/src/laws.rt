@@ -1,10 +1,7 @@
 //! What is due, and what answers to all of it mean.
-ghost use Rattle.docket_dues.specs.Answered.{AllAnswered};
+ghost use Rattle.docket_dues.specs.Answered.{AnswersCertify, AnswersShowSafe};
 ghost use Rattle.docket_dues.specs.DueLaws.{DueLaws};
-ghost use Rattle.nets.specs.Markings.{Marking};
 ghost use Rattle.nets.specs.Nets.{Limits, Net};
-ghost use Rattle.zones.specs.Safety.{Certificate, Safe, starts_at};
-ghost use Rattle.zones.specs.Zones.{Zone};
 ghost use Rattle.std.specs.Prelude.{ℕ, List};
 
 use bounds::Bound;
@@ -17,14 +14,7 @@ pub fn dues_keep_laws<B: Bound>()
 /// Does nothing: its contract is that answers to all that is due are a certificate, and so show the
 /// target safe, for every kind and net.
 pub fn answers_make_a_certificate<B: Bound>()
-    ensures certificate { (net : Net B) (initial : Marking) (target : Zone B)
-        (listed : List (Zone B)) →
-        Limits B.Bound.kind net →
-        AllAnswered B.Bound.kind net (starts_at initial) target listed →
-        Certificate B.Bound.kind net (starts_at initial) target listed }
-    ensures safe { (net : Net B) (initial : Marking) (target : Zone B)
-        (listed : List (Zone B)) →
-        Limits B.Bound.kind net →
-        AllAnswered B.Bound.kind net (starts_at initial) target listed →
-        Safe B.Bound.kind net (starts_at initial) target }
+    ensures certificate { (net : Net B) → Limits B.Bound.kind net →
+        AnswersCertify B.Bound.kind net }
+    ensures safe { (net : Net B) → Limits B.Bound.kind net → AnswersShowSafe B.Bound.kind net }
 {}

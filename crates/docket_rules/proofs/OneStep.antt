@@ -6,7 +6,7 @@ use Rattle.docket_dues.specs.Answered.{places_of_all}
 use Rattle.docket_dues.specs.declared.item.Item.{Item}
 use Rattle.docket_records.specs.ZoneRecords.{zone_of}
 use Rattle.nets.specs.Nets.{Net}
-use Rattle.docket_rules.specs.Calls.{BookKept, Call, Open, Post, Close, Discharge, Discharged, Opened, Posted, Step, most_taken, stage_of}
+use Rattle.docket_rules.specs.Calls.{BookKept, Call, Open, Post, Close, Discharge, NextDue, Discharged, Opened, Posted, Step, most_taken, stage_of}
 use Rattle.docket_rules.specs.Logs.{state_said}
 use Rattle.docket_rules.specs.Promise.{Promise}
 use Rattle.docket_rules.specs.Reached.{Sharp}
@@ -74,6 +74,9 @@ module _ {B : Type 0} (kind : Kind B) (net : Net B) where
   pub close_sharp : Sharp kind net Close
   close_sharp log w v u a b reached h k =
       both_one kind net w Close a b v u (one_answer (close_table w.state) a b h.0.answers k.0.answers) (close_after kind net w) h k
+
+  pub next_sharp : Sharp kind net NextDue
+  next_sharp log w v u a b reached h k = (h.0 ∙ sym k.0, h.1 ∙ sym k.1)
 
   -- by the promise its whole table stands, over the pages
   pub discharge_sharp : Promise kind net → (voucher : List ℕ) (scratch : List B) → Sharp kind net (Discharge voucher scratch)

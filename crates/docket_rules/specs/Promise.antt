@@ -92,7 +92,8 @@ NotTaken (Discharge voucher scratch answer) = (r : CallRefusal) × (answer ≡ E
 NotTaken (NextDue answer) = Unit {0}
 
 -- an allowed voucher for each of these items, one after the other, with these answers, and calls
--- between that are not taken
+-- between that are not taken; vouchers are allowed in the state before the first, since what they
+-- read of it, the token counts, stays
 pub data Vouching {B : Type 0} (kind : Kind B) (net : Net B) (s : State) (zones : ℕ → Zone B) :
     List Item → List (Call B) → List Answer → Type 0 where
   done : Vouching kind net s zones [] [] []

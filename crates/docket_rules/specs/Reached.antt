@@ -3,10 +3,11 @@
 use Rattle.std.specs.Prelude.{◌≡◌, ℕ, List}
 use Rattle.bounds.specs.Kinds.{Kind}
 use Rattle.nets.specs.Nets.{Net}
-use Rattle.docket_rules.specs.Calls.{Call, Open, Post, Close, Discharge, Played, Step}
+use Rattle.docket_rules.specs.Calls.{Call, Open, Post, Close, Discharge, NextDue, Played}
+use Rattle.docket_rules.specs.Calls.{Step}
 use Rattle.docket_rules.specs.Logs.{Log, no_log, with_call, with_calls}
 use Rattle.docket_rules.specs.Promise.{Kept}
-use Rattle.docket_rules.specs.Tables.{Answer, Given}
+use Rattle.docket_rules.specs.Tables.{Given}
 use Rattle.docket_rules.specs.Worlds.{World, blank, with_book}
 
 -- some calls have led here from a blank docket, and this is the log of them
@@ -19,9 +20,9 @@ pub record ReachedByCalls {B : Type 0} (kind : Kind B) (net : Net B) (log : Log 
   pub logged : log ≡ with_calls kind no_log calls
 
 -- the call answers in one way alone, and leaves one docket and one book alone
-abbrev pub Sharp : {B : Type 0} → Kind B → Net B → (call : Answer → Call B) → Type 0
-Sharp kind net call =
-    (log : Log _) (w v u : World _) (a b : Answer) →
+abbrev pub Sharp : {B X : Type 0} → Kind B → Net B → (call : X → Call B) → Type 0
+Sharp {B} {X} kind net call =
+    (log : Log B) (w v u : World B) (a b : X) →
     ReachedByCalls kind net log w →
     Step kind net w (call a) v →
     Step kind net w (call b) u →
@@ -39,3 +40,4 @@ pub record CallLaws {B : Type 0} (kind : Kind B) (net : Net B) : Type 0 where
   pub closes : Sharp kind net Close
   pub discharges : (voucher : List ℕ) (scratch : List B) →
       Sharp kind net (Discharge voucher scratch)
+  pub nexts : Sharp kind net NextDue

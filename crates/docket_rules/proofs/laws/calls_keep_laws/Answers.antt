@@ -1,5 +1,5 @@
 use Rattle.docket_rules.proofs.Kept.{promised}
-use Rattle.docket_rules.proofs.OneStep.{close_sharp, discharge_sharp, open_sharp, post_sharp}
+use Rattle.docket_rules.proofs.OneStep.{close_sharp, discharge_sharp, next_sharp, open_sharp, post_sharp}
 use Rattle.docket_rules.proofs.Reaching.{reached_blank, reached_kept, reached_step}
 use Rattle.docket_rules.proofs.laws.calls_keep_laws.Goals as goal
 
@@ -15,4 +15,5 @@ returns g c net limits =
       posts = post_sharp kind net;
       closes = close_sharp kind net;
       discharges = discharge_sharp kind net promise;
+      nexts = next_sharp kind net;
     }

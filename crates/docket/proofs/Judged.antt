@@ -16,7 +16,7 @@ use Rattle.docket_dues.proofs.Answered.{void_answered, vouched_answered}
 use Rattle.docket_records.specs.declared.voucher.Voucher.{Voucher}
 use Rattle.docket_items.specs.Made.{ItemAnswer}
 use Rattle.nets.specs.Nets.{Net}
-use Rattle.docket_refusals.specs.declared.refusal.CallRefusal.TheVariants.{NotVoid, VoidItem as IsVoid, NoSuchZone, Objected}
+use Rattle.docket_refusals.specs.declared.refusal.CallRefusal.TheVariants.{NotVoid, VoidItem as IsVoid, NoSuchZone}
 use Rattle.docket_rules.specs.Calls.{is_early}
 use Rattle.docket_rules.specs.Tables.{Against, Answer, Answers, Asks, IsVoidItem, Rule, item_rules, pairing_of, rule}
 use Rattle.docket_rules.specs.Worlds.{World, in_list, listed_count, listed_pages, page_of}

@@ -1,5 +1,5 @@
 -- What follows an item, asked of the places of its page.
-use Rattle.std.proofs.Common.{◌≡◌, ℕ, ◌+◌, ◌≤◌, min, List, [], length, Option, sym, ap, ◌∙◌}
+use Rattle.std.proofs.Common.{◌≡◌, ℕ, ◌+◌, min, List, Option, sym, ap, ◌∙◌}
 use Rattle.std.proofs.lemmas.List.{length-map}
 use Rattle.bounds.specs.Kinds.{Kind}
 use Rattle.docket.specs.Discharging.{Advanced}
@@ -8,7 +8,7 @@ use Rattle.docket_dues.specs.Answered.{places_of_all}
 use Rattle.docket_dues.specs.Dues.{Leads}
 use Rattle.docket_dues.specs.declared.item.Item.{Item}
 use Rattle.docket_items.specs.Next.{Lists}
-use Rattle.nets.specs.Nets.{Net, numbered}
+use Rattle.nets.specs.Nets.{Net}
 use Rattle.docket_rules.specs.Calls.{most_taken, stage_of}
 use Rattle.docket_rules.specs.Worlds.{World, listed_count, listed_pages, places_at}
 use Rattle.docket_rules.specs.declared.stage.Stage.{Stage}

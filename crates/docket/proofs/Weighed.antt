@@ -10,14 +10,15 @@ use Rattle.docket.proofs.Named.{item_due, item_held}
 use Rattle.docket_dues.specs.Answered.{Answered, places_of_all, zone_named}
 use Rattle.docket_dues.specs.Dues.{Leads}
 use Rattle.docket_dues.specs.declared.item.Item.{Item}
-use Rattle.docket_records.specs.Vouchers.{unused_set, voucher_of, voucher_spare}
+use Rattle.docket_records.specs.Records.{voucher_size}
+use Rattle.docket_records.specs.Vouchers.{voucher_of}
 use Rattle.docket_records.specs.declared.fault.EntryRefusal.TheVariants.{WrongLength, NotZero}
 use Rattle.docket_records.specs.declared.voucher.Voucher.{Voucher}
 use Rattle.docket_items.specs.Made.{PageHolds, ItemAnswer, StepBack, ZoneMade, loaded}
 use Rattle.nets.specs.Nets.{Net}
 use Rattle.docket_refusals.specs.declared.refusal.CallRefusal.{CallRefusal}
 use Rattle.docket_rules.specs.Calls.{Discharges, Left, Sound, is_early}
-use Rattle.docket_rules.specs.Tables.{Answer, Answers, Begins, discharge_rules, discharge_table, due_in, is_proving, item_rules, partners_used, voucher_rules}
+use Rattle.docket_rules.specs.Tables.{Answer, Answers, Begins, discharge_rules, discharge_table, due_in, is_proving, item_rules, stray_set, voucher_rules}
 use Rattle.docket_rules.specs.Worlds.{Lent, State, World, book_whole, listed_pages, cells_at, page_of, places_at, whole, with_scratch}
 use Rattle.docket_rules.specs.declared.stage.Stage.TheVariants.{Proving}
 
@@ -27,14 +28,14 @@ or_else x (Ok y) = y
 or_else x (Err e) = x
 
 pub record Read (s : State) (bytes : List ℕ) (v : Voucher) : Type 0 where
-  pub long : (eqb (length bytes) 6) ≡ true
-  pub clean : (voucher_spare bytes || unused_set (voucher_of bytes) (partners_used s (voucher_of bytes))) ≡ false
+  pub long : (eqb (length bytes) voucher_size) ≡ true
+  pub clean : stray_set s bytes ≡ false
   pub is : voucher_of bytes ≡ v
 
 pub read_is : (s : State) (bytes : List ℕ) (v : Voucher) → voucher_read s bytes ≡ Ok v → Read s bytes v
-read_is s bytes v = by (eqb (length bytes) 6) _ refl refl
+read_is s bytes v = by (eqb (length bytes) voucher_size) _ refl refl
   where
-    by : (long set : Bool) → eqb (length bytes) 6 ≡ long → (voucher_spare bytes || unused_set (voucher_of bytes) (partners_used s (voucher_of bytes))) ≡ set → cond (not long) (Err WrongLength) (cond set (Err NotZero) (Ok (voucher_of bytes))) ≡ Ok v → Read s bytes v
+    by : (long set : Bool) → eqb (length bytes) voucher_size ≡ long → stray_set s bytes ≡ set → cond (not long) (Err WrongLength) (cond set (Err NotZero) (Ok (voucher_of bytes))) ≡ Ok v → Read s bytes v
     by false set l c e = absurd (true≢false (ap is_err e))
     by true true l c e = absurd (true≢false (ap is_err e))
     by true false l c e = record { long = l; clean = c; is = ap (or_else v) e }
@@ -60,10 +61,10 @@ module _ {B : Type 0} (kind : Kind B) (net : Net B) (w : World B) (bytes : List 
             step = subst (λ c. StepBack kind net (places_at w d.zone) d.zone d.transition d.matching (loaded kind (places_at w d.zone) c before) after asked) cells_are (subst (λ p. StepBack kind net p d.zone d.transition d.matching (loaded kind p cells before) after asked) places_are made.step);
             answer_is = judges;
           });
-          begins = inr (λ h. both_ways (eqb (length bytes) 6) h said.long, inr (λ h. both_ways _ said.clean h, tt));
+          begins = inr (λ h. both_ways (eqb (length bytes) voucher_size) h said.long, inr (λ h. both_ways _ said.clean h, tt));
           answers = λ proving full sound.
               inr (
-                λ h. both_ways (eqb (length bytes) 6) h said.long,
+                λ h. both_ways (eqb (length bytes) voucher_size) h said.long,
                 inr (
                   λ h. both_ways _ said.clean h,
                   subst (λ u. Answers (item_rules kind net w.state (page_of kind w) d u) answer) (sym said.is) (subst (Answers (item_rules kind net w.state (page_of kind w) d v)) (sym judges) (judged_answers kind net w d v after asked (item_made proving full sound))),

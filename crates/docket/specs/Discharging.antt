@@ -33,7 +33,8 @@ use Rattle.docket_dues.specs.Answered.{Answered, places_of_all}
 use Rattle.docket_dues.specs.Dues.{Leads}
 use Rattle.docket_dues.specs.declared.item.Item.{Item}
 use Rattle.docket_items.specs.Made.{StepBack, loaded}
-use Rattle.docket_records.specs.Vouchers.{unused_set, voucher_of, voucher_spare}
+use Rattle.docket_records.specs.Records.{voucher_size}
+use Rattle.docket_records.specs.Vouchers.{voucher_of}
 use Rattle.docket_records.specs.declared.fault.EntryRefusal.{EntryRefusal}
 use Rattle.docket_records.specs.declared.fault.EntryRefusal.TheVariants.{WrongLength, NotZero}
 use Rattle.docket_records.specs.declared.voucher.Voucher.{Voucher}
@@ -53,7 +54,7 @@ use Rattle.docket_rules.specs.Tables.{
   Rule,
   item_rules,
   pairing_of,
-  partners_used,
+  stray_set,
   voucher_rules,
 }
 use Rattle.docket_rules.specs.Worlds.{
@@ -73,9 +74,8 @@ use Rattle.zones.specs.Zones.{Zone}
 -- the voucher that the bytes are, or what is wrong with them
 abbrev pub voucher_read : State → (bytes : List ℕ) → Result Voucher EntryRefusal
 voucher_read s bytes =
-    if not (length bytes == 6) then Err WrongLength
-    else if voucher_spare bytes || unused_set (voucher_of bytes) (partners_used s (voucher_of bytes))
-    then Err NotZero
+    if not (length bytes == voucher_size) then Err WrongLength
+    else if stray_set s bytes then Err NotZero
     else Ok (voucher_of bytes)
 
 -- what stands against the zone that the voucher names, as one that vouches for a zone
@@ -117,7 +117,8 @@ abbrev pub Worked : {B : Type 0} → Kind B → Net B → World B → Item → (
 Worked kind net w d scratch (Ok v) answer = Judges kind net w d scratch v answer
 Worked kind net w d scratch (Err r) answer = answer ≡ Err (Entry r)
 
-abbrev pub weigh_rules : {B : Type 0} → Kind B → Net B → World B → Item → (bytes : List ℕ) → List Rule
+abbrev pub weigh_rules : {B : Type 0} → Kind B → Net B → World B → Item → (bytes : List ℕ) →
+    List Rule
 weigh_rules kind net w d bytes =
     voucher_rules w.state bytes
     ++ item_rules kind net w.state (page_of kind w) d (voucher_of bytes)

@@ -1,5 +1,5 @@
 -- The initial tokens that an open is given, or what is wrong with them.
-use Rattle.std.specs.Prelude.{ℕ, if◌then◌else◌, ◌||◌, List, length, Ok, Err, Result, nat_le, nat_lt}
+use Rattle.std.specs.Prelude.{ℕ, if◌then◌else◌, ◌||◌, length, Ok, Err, Result, nat_le, nat_lt}
 use Rattle.std.specs.List.{list_any}
 use Rattle.arrayvec.specs.ArrayVec.{ArrayVec}
 use Rattle.docket_records.specs.declared.fault.EntryRefusal.{EntryRefusal}

@@ -6,7 +6,7 @@ ghost use Rattle.zone_cells.specs.Sizes.{draft_cells, page_cells, page_places};
 ghost use Rattle.docket_rules.specs.Worlds.{book_cells, book_places};
 ghost use Rattle.docket_rules.specs.Calls.{cell_of, cells_of, page_places_of, with_page};
 ghost use Rattle.std.specs.List.{range_with_len};
-ghost use Rattle.std.specs.Prelude.{◌≡◌, ◌==◌, ◌&&◌, ◌+◌, ◌*◌, ◌/◌, ◌%◌, ◌<◌, ◌≤◌, ◌++◌, ℕ, length, take, drop, map};
+ghost use Rattle.std.specs.Prelude.{◌≡◌, ◌==◌, ◌&&◌, ◌+◌, ◌/◌, ◌%◌, ◌<◌, ◌≤◌, ℕ, length, map};
 
 use bounds::Bound;
 use zone_drafts::bytes::byte;
@@ -40,9 +40,11 @@ fn write_part<X: Copy, F: Fn(u8) -> X>(items: &mut [X], start: usize, size: u8, 
     }
 }
 
-// The cell of a page: the draft's, or for absent tokens zero from a point to itself, and else no limit.
+// The cell of a page: the draft's, or for absent tokens zero from a point to itself, and else no
+// limit.
 fn page_cell<B: Bound>(draft: &[B], tokens: u8, at: u8) -> B
-    ensures { result ≡ cell_of B.Bound.kind tokens (in_draft B.Bound.kind draft.now) (at / 9) (at % 9) }
+    ensures { result ≡
+        cell_of B.Bound.kind tokens (in_draft B.Bound.kind draft.now) (at / 9) (at % 9) }
 {
     let (j, i) = (at / 9, at % 9);
     if j <= tokens && i <= tokens {

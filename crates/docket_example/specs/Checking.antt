@@ -137,7 +137,8 @@ pub record Stopped (net : Net PlainBound) (c : Certificate) (refused : Refused) 
   pub may : MayBeRefused c refused.entry
   pub world : World PlainBound
   pub stands : EntryStands net (log_before c refused.entry) world
-  pub rule : ByRules plain_kind net (log_before c refused.entry) world (call_for c refused.entry (Err refused.refusal))
+  pub rule : ByRules plain_kind net (log_before c refused.entry) world
+      (call_for c refused.entry (Err refused.refusal))
 
 abbrev pub Checked : Net PlainBound → Certificate → Result Verdict Refused → Type 0
 Checked net c (Ok verdict) = CallsEnded net c verdict

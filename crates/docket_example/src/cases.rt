@@ -1,4 +1,5 @@
-// The certificate that two carriers never meet at the second stop, and what it comes to with a fault in it.
+// The certificate that two carriers never meet at the second stop, and what it comes to with a
+// fault in it.
 use crate::{Certificate, Entry, Refused, Verdict, check};
 use docket_dues::Item;
 use docket_records::fault::EntryRefusal;
@@ -7,7 +8,8 @@ use net_handover::Handover;
 use std::test::Fail;
 use zone_pages::Objection;
 
-// The record of a zone without limits, by its first three bytes: the count of its tokens, and their places.
+// The record of a zone without limits, by its first three bytes: the count of its tokens, and their
+// places.
 fn record(head: [u8; 3]) -> [u8; 192] {
     let mut bytes = [0; 192];
     bytes[..3].copy_from_slice(&head);

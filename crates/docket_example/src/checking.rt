@@ -1,6 +1,12 @@
 // The check of a certificate: one docket, from the blank one through a call for each entry.
 ghost use Rattle.bounds.specs.PlainKind.{plain_kind};
-ghost use Rattle.docket_example.specs.Checking.{Checked, at_entry, initial_marking, line_net, target_of};
+ghost use Rattle.docket_example.specs.Checking.{
+  Checked,
+  at_entry,
+  initial_marking,
+  line_net,
+  target_of,
+};
 ghost use Rattle.std.specs.Prelude.{◌≡◌};
 ghost use Rattle.zones.specs.Safety.{Safe, starts_at};
 

@@ -1,5 +1,5 @@
-//! The check of a safety certificate over a net store of one's own: what a maker of line-design tools
-//! writes around a docket.
+//! The check of a safety certificate over a net store of one's own: what a maker of line-design
+//! tools writes around a docket.
 #![tactic(auto)]
 
 #[cfg(test)]

@@ -71,7 +71,8 @@ ItemAnswer kind net target listed d draft (Some tokens) =
 pub record ZoneMade {B : Type 0} (kind : Kind B) (net : Net B) (page_places : List ℕ)
     (page : List B) (d : Item) (before after : List B) (answer : Option (ArrayVec ℕ)) : Type 0 where
   pub kept : length after ≡ length before
-  pub step : StepBack kind net page_places d.zone d.transition d.matching (loaded kind page_places page before) after answer
+  pub step : StepBack kind net page_places d.zone d.transition d.matching
+      (loaded kind page_places page before) after answer
   pub answered : (target : Zone B) (listed : List (Zone B)) → length before ≡ draft_cells →
       IsDue net (places_of_all listed) d →
       PageHolds kind (zone_named target listed d.zone) page_places page →

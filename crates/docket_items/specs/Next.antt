@@ -30,7 +30,8 @@ pub record Later {B : Type 0} (net : Net B) (places : List ℕ) (d later : Item)
   pub firing : 1 ≤ d.transition
   pub zone : later.zone ≡ d.zone
   pub transition : later.transition ≡ d.transition
-  pub next : Next (is_matching places (arcs_of net d.transition Output)) d.matching (Some later.matching)
+  pub next : Next (is_matching places (arcs_of net d.transition Output)) d.matching
+      (Some later.matching)
 
 abbrev pub LaterMatching : {B : Type 0} → Net B → (places : List ℕ) → Item → Option Item → Type 0
 LaterMatching net places d None = 1 ≤ d.zone → 1 ≤ d.transition → Next

@@ -1,5 +1,5 @@
-//! Items that are due, worked out over a net store: which comes next, and the zone that one asks to vouch
-//! for.
+//! Items that are due, worked out over a net store: which comes next, and the zone that one asks to
+//! vouch for.
 #![tactic(auto)]
 
 pub mod next;

@@ -1,7 +1,14 @@
-// The item that is due after another: the next matching, else the next transition, else the next zone.
+// The item that is due after another: the next matching, else the next transition, else the next
+// zone.
 ghost use Rattle.std.specs.Prelude.{◌≡◌, ℕ, List};
 ghost use Rattle.docket_dues.specs.Dues.{Leads};
-ghost use Rattle.docket_items.specs.Next.{Follows, LaterMatching, Lists, later_transition, later_zone};
+ghost use Rattle.docket_items.specs.Next.{
+  Follows,
+  LaterMatching,
+  Lists,
+  later_transition,
+  later_zone,
+};
 
 use bounds::Bound;
 use docket_dues::Item;

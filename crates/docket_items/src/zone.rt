@@ -26,8 +26,8 @@ pub fn item_zone<B: Bound, N: NetStore<B>>(
     item: Item,
     draft: &mut [B],
 ) -> Option<Tokens>
-    ensures { ZoneMade B.Bound.kind (N.NetStore.net store.now) page.now.places.now page.now.cells.now
-        item draft.old draft.new result }
+    ensures { ZoneMade B.Bound.kind (N.NetStore.net store.now)
+        page.now.places.now page.now.cells.now item draft.old draft.new result }
 {
     let places = page.places;
     page.load(draft);

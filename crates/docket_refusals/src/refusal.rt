@@ -9,7 +9,8 @@ use net_records::fault::Refusal;
 use std::fmt;
 use zone_pages::Objection;
 
-/// By number; the lowest number that holds counts, after 40, 41 and 42. Each says whose it is to mend.
+/// By number; the lowest number that holds counts, after 40, 41 and 42. Each says whose it is to
+/// mend.
 #[derive(Clone, Copy, PartialEq, Eq, Debug)]
 pub enum CallRefusal {
     /// 20 to 25: what is wrong with a record, or with the initial tokens. Whoever wrote them.
@@ -26,8 +27,8 @@ pub enum CallRefusal {
     Objected(Objection),
     /// 40: the call does not belong to this stage. The calling program.
     WrongStage,
-    /// 41: lent memory is not of the stated length, or initial places and ages differ in number. The
-    /// calling program.
+    /// 41: lent memory is not of the stated length, or initial places and ages differ in number.
+    /// The calling program.
     WrongMemory,
     /// 42: a 64th zone. The calling program.
     FullList,

@@ -1,4 +1,5 @@
-// Which zones a docket with initial tokens lists: 26, and under marked kind strict bounds, which exclude their own number.
+// Which zones a docket with initial tokens lists: 26, and under marked kind strict bounds, which
+// exclude their own number.
 use crate::faults::number_under;
 use crate::fixture::{Call, Fixture};
 use crate::stages::{BOTH_IN_1, two_carriers};
@@ -57,7 +58,8 @@ const TWO_IN_0: [Row; 9] = [
     ([(1, 2, ABOVE_2), (2, 0, NO_LIMIT)], 24, 0),
 ];
 
-// Posts a zone of each row, of so many tokens in place 0, where the initial tokens in place 0 have these ages.
+// Posts a zone of each row, of so many tokens in place 0, where the initial tokens in place 0 have
+// these ages.
 fn check_rows<B: Bound + PartialEq>(
     rt: &impl Abort,
     heap: Global,

@@ -8,8 +8,9 @@ use std::process::Abort;
 use std::test::Fail;
 use test_records::zone_bytes::*;
 
-// How many of the bytes are given where the target is due, and the number. The target's tokens stand in place 1, of any age. Listed
-// are zones of tokens in places 1 and 1, 1 and 0, 0 and 0, and once more 1 and 1 and 1 and 0, their first token at most 5 old.
+// How many of the bytes are given where the target is due, and the number. The target's tokens
+// stand in place 1, of any age. Listed are zones of tokens in places 1 and 1, 1 and 0, 0 and 0, and
+// once more 1 and 1 and 1 and 0, their first token at most 5 old.
 const AT_TARGET: [(u8, [u8; 7], u8); 42] = [
     // 20: five bytes, seven, none
     (5, [0x02, 0x24, 0, 0, 0, 0, 0], 20),
@@ -24,7 +25,8 @@ const AT_TARGET: [(u8, [u8; 7], u8); 42] = [
     (5, [0x02, 0x22, 0, 0, 0, 0, 0], 20),
     (7, [0x04, 0x24, 0, 0, 0, 0, 0], 20),
     (7, [0x08, 0x24, 0, 0, 0, 0, 0], 20),
-    // 21: the first and the last spare bit, a third and an eighth partner, void with a zone, with its first and its last partner
+    // 21: the first and the last spare bit, a third and an eighth partner, void with a zone, with
+    // its first and its last partner
     (6, [0x02, 0x24, 0, 0, 1, 0, 0], 21),
     (6, [0x02, 0x24, 0, 0, 0, 1, 0], 21),
     (6, [0x02, 0x24, 0x20, 0, 0, 0, 0], 21),
@@ -126,7 +128,8 @@ fn marked_vouchers_are_refused_by_number(rt: HostRuntime) -> Result<(), Fail> {
     check_stages::<MarkedBound>(&rt, rt.alloc())
 }
 
-// The item that is due, a voucher for it, and its number; 0 where it is taken, and the next item is due.
+// The item that is due, a voucher for it, and its number; 0 where it is taken, and the next item is
+// due.
 type Step = ((u8, u8, u16), [u8; 6], u8);
 
 // Each pairs token 1 with 1.
@@ -158,7 +161,8 @@ const OLD_TOKEN: [Step; 33] = [
     ((1, 1, 0), [0x02, 0x60, 0, 0, 0, 0], 30),
     ((1, 1, 0), [0x02, 0x40, 0, 0, 0, 0], 31),
     ((1, 1, 0), BY_ZONE_1, 0),
-    // void: no token of age 1 and more was just put there at age 0. 21 before 28, by a spare bit and by a second partner
+    // void: no token of age 1 and more was just put there at age 0. 21 before 28, by a spare bit
+    // and by a second partner
     ((1, 1, 0x1000), [0x02, 0x20, 0, 0, 0, 1], 21),
     ((1, 1, 0x1000), [0x02, 0x22, 0, 0, 0, 0], 21),
     ((1, 1, 0x1000), [0x82, 0, 0, 0, 0, 0], 21),
@@ -181,7 +185,8 @@ const OLD_TOKEN: [Step; 33] = [
     ((2, 1, 0x1000), BY_ZONE_2, 31),
 ];
 
-// Under marked kind. The target and zone 3 are a token in place 1 up to 2 old, zone 1 one above 0 and up to 2, zone 2 one below 2.
+// Under marked kind. The target and zone 3 are a token in place 1 up to 2 old, zone 1 one above 0
+// and up to 2, zone 2 one below 2.
 const STRICT: [Step; 17] = [
     ((0, 0, 0), BY_ZONE_1, 32),
     ((0, 0, 0), BY_ZONE_2, 32),

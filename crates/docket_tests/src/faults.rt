@@ -1,4 +1,5 @@
-// What is wrong with a zone's record: each fault brings about one condition, whatever the others do.
+// What is wrong with a zone's record: each fault brings about one condition, whatever the others
+// do.
 use Fault::*;
 use bounds::Bound;
 use std::alloc::Global;
@@ -12,7 +13,8 @@ pub enum Fault {
     Short,
     Long,
     Empty,
-    // 21: the first and the last bit that is spare, the place of token 2, the bound of two absent tokens, a mark on no limit
+    // 21: the first and the last bit that is spare, the place of token 2, the bound of two absent
+    // tokens, a mark on no limit
     FirstSpare,
     LastSpare,
     AbsentPlace,
@@ -30,7 +32,8 @@ pub enum Fault {
     Covered,
 }
 
-// A record before it is written: its header, the two bounds of token 1's age, and the bound of tokens 8 and 7.
+// A record before it is written: its header, the two bounds of token 1's age, and the bound of
+// tokens 8 and 7.
 #[derive(Clone, Copy)]
 struct Form {
     header: [u8; 12],
@@ -79,7 +82,8 @@ pub fn faulty(heap: Global, faults: [Fault; 2]) -> Result<Vec<u8>, Fail> {
     Ok(bytes)
 }
 
-// The faults of a record, in the order in which they are tested, with its number under plain and under marked kind; 0 where it is taken.
+// The faults of a record, in the order in which they are tested, with its number under plain and
+// under marked kind; 0 where it is taken.
 pub type Row = ([Fault; 2], u8, u8);
 
 // The number that counts under a kind.
@@ -95,7 +99,8 @@ pub fn refusal_under<B: Bound>(row: Row) -> u8 {
     number_under::<B>(row.1, row.2)
 }
 
-// Each number alone, by each of its faults; then each two neighbours, and some that lie further apart.
+// Each number alone, by each of its faults; then each two neighbours, and some that lie further
+// apart.
 pub const RECORDS: [Row; 33] = [
     // alone
     ([Short, Fine], 20, 20),

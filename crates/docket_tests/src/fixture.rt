@@ -1,4 +1,5 @@
-// A docket with the memory that its calls are lent; a call that is taken, and one that is refused and leaves everything as it was.
+// A docket with the memory that its calls are lent; a call that is taken, and one that is refused
+// and leaves everything as it was.
 use bounds::{Bound, bound_of};
 use docket::{BOOK_CELLS, BOOK_PLACES, Docket};
 use docket_dues::Item;
@@ -149,7 +150,8 @@ impl<'a, B: Bound + PartialEq> Fixture<'a, B> {
         Ok(())
     }
 
-    // A call that is taken. Close is lent nothing; every other one leaves no limit in the scratch page.
+    // A call that is taken. Close is lent nothing; every other one leaves no limit in the scratch
+    // page.
     fn takes(&mut self, rt: &impl Abort, call: Call<'_>) -> Result<(), Fail> {
         self.scratch = scratch_of(self.heap, B::zero())?;
         let answer = self.call(WHOLE, call);
@@ -162,8 +164,8 @@ impl<'a, B: Bound + PartialEq> Fixture<'a, B> {
         self.check_scratch(rt, bound, call)
     }
 
-    // A call that is refused with this number. It changes neither docket nor book; after 40, 41 and 42 it has not touched the scratch
-    // page, else that is left without limit.
+    // A call that is refused with this number. It changes neither docket nor book; after 40, 41 and
+    // 42 it has not touched the scratch page, else that is left without limit.
     fn refuses(
         &mut self,
         rt: &impl Abort,

@@ -1,4 +1,4 @@
-// The calls of a docket, worked out by hand from the rules: what each answers, and what it leaves.
+//! The calls of a docket, worked out by hand from the rules: what each answers, and what it leaves.
 #![tactic(auto)]
 
 #[cfg(test)]

@@ -1,4 +1,5 @@
-// What open and post write: the normal form and the places of their zone on its page, and nothing on any other.
+// What open and post write: the normal form and the places of their zone on its page, and nothing
+// on any other.
 use crate::fixture::{Call, Fixture};
 use crate::stages::{BOTH_IN_1, ONE_EACH, ONE_IN_1, two_carriers};
 use bounds::{Bound, MarkedBound, PlainBound, bound_of};
@@ -66,7 +67,8 @@ fn check_written<B: Bound + PartialEq>(
     Ok(())
 }
 
-// The normal form of the record `TWO`: 6 of token 1's age, and 0 from the clock to token 2, bound their difference by 6.
+// The normal form of the record `TWO`: 6 of token 1's age, and 0 from the clock to token 2, bound
+// their difference by 6.
 const TWO_FORM: [Entry; 6] = [
     (0, 1, -1, false),
     (0, 2, 0, false),
@@ -91,7 +93,8 @@ const EIGHT_FORM: [Entry; 8] = [
 // Eight tokens in place 1.
 const EIGHT_IN_1: [u8; 7] = [8, 0x04, 0x10, 0x41, 0x04, 0x10, 0x41];
 
-// A target of no tokens on page 0, zones of two, of eight and of one on pages 1 to 3, and the last page.
+// A target of no tokens on page 0, zones of two, of eight and of one on pages 1 to 3, and the last
+// page.
 fn check_pages<B: Bound + PartialEq>(rt: &impl Abort, heap: Global) -> Result<(), Fail> {
     let bytes = two_carriers(heap)?;
     let mut line: Fixture<'_, B> = Fixture::blank(heap, &bytes)?;
@@ -134,7 +137,8 @@ fn a_page_holds_the_marked_normal_form(rt: HostRuntime) -> Result<(), Fail> {
     check_pages::<MarkedBound>(&rt, rt.alloc())
 }
 
-// Token 1 is 1 old at least and below 3, token 2 at most 4 older; so token 2 is below 7, and token 1 less than 3 older.
+// Token 1 is 1 old at least and below 3, token 2 at most 4 older; so token 2 is below 7, and token
+// 1 less than 3 older.
 const STRICT_TWO: [Listed; 3] = [(0, 1, MINUS_1), (1, 0, BELOW_3), (2, 1, 4)];
 
 const STRICT_FORM: [Entry; 6] = [
@@ -169,7 +173,8 @@ fn a_page_keeps_marks(rt: HostRuntime) -> Result<(), Fail> {
     check_written(&rt, &mut line, Call::Post(&zone), two)
 }
 
-// No token and eight, of the largest age and in the last place: with `TWO` as the target each is taken.
+// No token and eight, of the largest age and in the last place: with `TWO` as the target each is
+// taken.
 fn check_taken<B: Bound + PartialEq>(
     rt: &impl Abort,
     heap: Global,

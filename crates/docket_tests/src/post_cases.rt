@@ -7,8 +7,8 @@ use std::alloc::Global;
 use std::process::Abort;
 use std::test::Fail;
 
-// The initial token stands in place 0 and is 2 old. It satisfies no zone with a token in another place, of more tokens, or without
-// any age, so 26 comes together with 20, 21 and 24 alone.
+// The initial token stands in place 0 and is 2 old. It satisfies no zone with a token in another
+// place, of more tokens, or without any age, so 26 comes together with 20, 21 and 24 alone.
 const COVERED: [Row; 6] = [
     ([Fault::Covered, Fault::Fine], 26, 26),
     ([Fault::Short, Fault::Covered], 20, 20),

@@ -7,7 +7,8 @@ use std::test::Fail;
 use test_records::net_bytes::one_transition;
 use test_records::zone_bytes::record;
 
-// Records by the count and the places of their tokens: two in place 1, in places 1 and 0, two in place 0, one in place 1.
+// Records by the count and the places of their tokens: two in place 1, in places 1 and 0, two in
+// place 0, one in place 1.
 pub const BOTH_IN_1: [u8; 3] = [2, 0x04, 0x10];
 
 pub const ONE_EACH: [u8; 2] = [2, 0x04];

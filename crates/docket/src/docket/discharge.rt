@@ -1,5 +1,13 @@
 // One voucher for the first item that is due, and the pages that it speaks of.
-ghost use Rattle.docket.specs.Discharging.{Advanced, Weighed, Works, asked_zone, judged, objection_to, voucher_read};
+ghost use Rattle.docket.specs.Discharging.{
+  Advanced,
+  Weighed,
+  Works,
+  asked_zone,
+  judged,
+  objection_to,
+  voucher_read,
+};
 ghost use Rattle.docket.specs.Dockets.{world_over};
 ghost use Rattle.docket_rules.specs.Calls.{Discharges};
 ghost use Rattle.docket_rules.specs.Promise.{Promise};
@@ -87,7 +95,8 @@ impl Docket {
         claim.check()
     }
 
-    // The draft has the zone that the item asks for, of these tokens; it is void where there are none.
+    // The draft has the zone that the item asks for, of these tokens; it is void where there are
+    // none.
     fn judge<B: Bound>(
         &self,
         book: &Book<'_, B>,
@@ -95,7 +104,8 @@ impl Docket {
         asked: Option<Tokens>,
         voucher: &Voucher,
     ) -> Result<(), CallRefusal>
-        ensures { result ≡ judged B.Bound.kind (world_over self.now book.now) voucher.now draft.now asked }
+        ensures { result ≡
+            judged B.Bound.kind (world_over self.now book.now) voucher.now draft.now asked }
     {
         match (voucher.void, asked) {
             (true, None) => Ok(()),
@@ -130,8 +140,8 @@ impl Docket {
     }
 
     fn advance<B: Bound, N: NetStore<B>>(&mut self, store: &N, book: &Book<'_, B>, item: Item)
-        ensures { Advanced B.Bound.kind (N.NetStore.net store.now) (world_over self.old book.now) item
-            self.new }
+        ensures { Advanced B.Bound.kind (N.NetStore.net store.now) (world_over self.old book.now)
+            item self.new }
     {
         let places = self.page(book, item.zone).places;
         self.stage = match next_due(store, self.listed(), places, item) {
@@ -169,8 +179,8 @@ impl Docket {
         Ok(())
     }
 
-    /// Takes a voucher for the first item that is due; the last one seals. What it ensures besides is
-    /// what is promised of every list of calls from a blank docket over a lawful store.
+    /// Takes a voucher for the first item that is due; the last one seals. What it ensures besides
+    /// is what is promised of every list of calls from a blank docket over a lawful store.
     pub fn discharge<B: Bound, N: NetStore<B>>(
         &mut self,
         store: &N,

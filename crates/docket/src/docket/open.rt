@@ -100,8 +100,8 @@ impl Docket {
         Ok(())
     }
 
-    /// Opens a blank docket: the places of the initial tokens with an age for each, and the record of
-    /// the target.
+    /// Opens a blank docket: the places of the initial tokens with an age for each, and the record
+    /// of the target.
     pub fn open<B: Bound, N: NetStore<B>>(
         &mut self,
         store: &N,
@@ -112,8 +112,8 @@ impl Docket {
         ages: &[u16],
         target: &[u8],
     ) -> Result<(), CallRefusal>
-        ensures answers { OpenAnswers B.Bound.kind (N.NetStore.net store.now) (given initial.now ages.now)
-            target.now (lent self.old cells.old places.old scratch.old) result }
+        ensures answers { OpenAnswers B.Bound.kind (N.NetStore.net store.now)
+            (given initial.now ages.now) target.now (lent self.old cells.old places.old scratch.old) result }
         ensures scratch { Left B.Bound.kind result scratch.old scratch.new }
         ensures refused { (r : Refused) → result ≡ Err r →
             with_book self.new cells.new places.new ≡ with_book self.old cells.old places.old }

@@ -1,4 +1,4 @@
-use Rattle.std.proofs.Common.{◌≡◌, ℕ, List, length, replicate, cond, true, refl, sym, ap, ◌∙◌, subst, inr, rules, arith}
+use Rattle.std.proofs.Common.{◌≡◌, length, replicate, cond, true, refl, sym, ap, ◌∙◌, subst, inr, rules, arith}
 use Rattle.std.proofs.lemmas.Bool.{eq-eqb, false≢true}
 use Rattle.docket.specs.Dockets.{zone_rules}
 use Rattle.docket_rules.specs.Tables.{Answers, is_listing}

@@ -9,7 +9,7 @@ use Rattle.bounds.specs.Kinds.{Kind}
 use Rattle.zone_cells.specs.Drafts.{draft_zone}
 use Rattle.docket.specs.Discharging.{judged, objected}
 use Rattle.docket.proofs.Named.{as_many, itself, page_named}
-use Rattle.docket.proofs.Objected.{Tried, same_objection, unobjected}
+use Rattle.docket_rules.proofs.Objected.{Tried, same_objection, unobjected}
 use Rattle.docket_dues.specs.Answered.{Answered, ItemZone, SameZone, VoidItem, zone_named}
 use Rattle.docket_dues.specs.declared.item.Item.{Item}
 use Rattle.docket_dues.proofs.Answered.{void_answered, vouched_answered}

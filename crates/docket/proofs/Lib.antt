@@ -3,7 +3,6 @@ pub mod Records
 pub mod Rows
 pub mod Gathered
 mod Named
-mod Objected
 mod Judged
 mod Weighed
 mod Moved

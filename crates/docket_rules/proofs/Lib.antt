@@ -8,6 +8,7 @@ pub mod Sounds
 pub mod Moved
 pub mod AlikeRules
 pub mod KeptAsked
+pub mod Objected
 pub mod OneForm
 pub mod KeepsClose
 pub mod KeepsOpen

@@ -1,42 +1,26 @@
 -- What the table of a discharge reads of zones is the same for any two that are normal forms of the
 -- same records.
-use Rattle.std.proofs.Common.{◌≡◌, ℕ, zero, suc, ◌-◌, ◌≤◌, Bool, true, false, cond, List, [], ◌∷◌, ◌++◌, map, length, get_or, Ok, Err, Result, refl, sym, ap, ◌∙◌, subst, arith}
+use Rattle.std.proofs.Common.{◌≡◌, ℕ, zero, suc, ◌-◌, ◌≤◌, Bool, true, false, List, [], ◌∷◌, ◌++◌, map, length, get_or, refl, sym, ap, ◌∙◌, subst, arith}
 use Rattle.std.specs.List.{range_with_len}
-use Rattle.std.proofs.lemmas.Bool.{and_parts, leb-true, true≢false}
+use Rattle.std.proofs.lemmas.Bool.{and_parts, leb-true}
 use Rattle.bounds.specs.Kinds.{Kind}
 use Rattle.docket_dues.specs.Answered.{ItemZone, SameZone, VoidItem, digits, zone_named}
 use Rattle.docket_dues.specs.declared.item.Item.{Item}
 use Rattle.docket_dues.proofs.Lists.{number_every}
-use Rattle.docket_dues.proofs.Same.{delay_same, firing_same, void_same, voucher_same}
+use Rattle.docket_dues.proofs.Same.{delay_same, firing_same, void_same}
 use Rattle.docket_records.specs.declared.voucher.Voucher.{Voucher}
 use Rattle.nets.specs.Nets.{Every, Net, transition_of}
 use Rattle.docket_rules.specs.Tables.{Against, Answer, Answers, discharge_rules, discharge_table, due_in, item_rules, pairing_of}
 use Rattle.docket_rules.specs.Worlds.{State, in_list, listed_count, listed_zones}
-use Rattle.zone_pages.proofs.Comparison.{none_lacks, vouches_from}
-use Rattle.zone_pages.specs.Comparison.{bound_exceeds, partners_unsound, places_differ}
-use Rattle.zone_pages.specs.Objections.{objection_of}
 use Rattle.zone_pages.specs.declared.objections.Objection.{Objection}
 use Rattle.zone_pages.specs.declared.objections.Objection.TheVariants.{Partner, Place, Bound}
 use Rattle.docket_records.specs.Vouchers.{voucher_of}
-use Rattle.zone_walks.specs.Walks.{Matrix, counted}
+use Rattle.zone_walks.specs.Walks.{counted}
 use Rattle.zone_walks.proofs.NormalForms.{normal_unique}
 use Rattle.zones.specs.Zones.{Zone, NormalOf, points}
 use Rattle.docket_rules.proofs.AlikeRules.{Alike, alike_behind, answers_alike}
 use Rattle.docket_rules.proofs.KeptAsked.{same_as_one}
-
-abbrev Tried : Type 0
-Tried = Result (Unit {0}) Objection
-
-abbrev tried : Bool → Bool → Bool → Tried
-tried a b c = cond a (Err Partner) (cond b (Err Place) (cond c (Err Bound) (Ok tt)))
-
--- the last test tells the same of both, where the others hold of neither
-last_alike : (a b c e : Bool) → (a ≡ false → b ≡ false → c ≡ false → e ≡ false) → (a ≡ false → b ≡ false → e ≡ false → c ≡ false) → tried a b c ≡ tried a b e
-last_alike true b c e there back = refl
-last_alike false true c e there back = refl
-last_alike false false false e there back = ap (λ t. tried false false t) (sym (there refl refl refl))
-last_alike false false true true there back = refl
-last_alike false false true false there back = absurd (true≢false (back refl refl refl))
+use Rattle.docket_rules.proofs.Objected.{same_against}
 
 module _ {B : Type 0} (kind : Kind B) where
   -- ---- a zone has one normal form
@@ -53,27 +37,6 @@ module _ {B : Type 0} (kind : Kind B) where
         places = sym same.places;
         bounds = λ j i p q. let few = ap length same.places in sym (same.bounds j i (omega (arith, p, few)) (omega (arith, q, few)));
       }
-
-  -- ---- the same stands against either
-  module _ (asked : Zone B) (pairing places : List ℕ) (x y : Matrix B) where
-    abbrev one : Zone B
-    one = record { places = places; bound = x }
-
-    abbrev other : Zone B
-    other = record { places = places; bound = y }
-
-    same_tried : SameZone one other → SameZone other one → objection_of kind one asked pairing ≡ objection_of kind other asked pairing
-    same_tried there back =
-        last_alike (partners_unsound places asked.places pairing) (places_differ places asked.places pairing) (bound_exceeds kind x asked.bound pairing) (bound_exceeds kind y asked.bound pairing)
-        (λ a b c. (none_lacks kind other asked pairing (voucher_same kind other one asked pairing back (vouches_from kind one asked pairing a b c))).2)
-        (λ a b c. (none_lacks kind one asked pairing (voucher_same kind one other asked pairing there (vouches_from kind other asked pairing a b c))).2)
-
-  same_objection : (asked x y : Zone B) (pairing : List ℕ) → SameZone x y → objection_of kind x asked pairing ≡ objection_of kind y asked pairing
-  same_objection asked x y pairing same =
-      same_tried asked pairing x.places x.bound y.bound
-      (record { places = refl; bounds = same.bounds })
-      (record { places = refl; bounds = λ j i p q. sym (same.bounds j i p q) })
-      ∙ ap (λ ps. objection_of kind (record { places = ps; bound = y.bound }) asked pairing) (sym same.places)
 
   -- ---- zones by number, each the same as the other's
   module _ (s : State) (zones other : ℕ → Zone B) (same : (p : ℕ) → p ≤ listed_count s → SameZone (zones p) (other p)) where
@@ -116,7 +79,7 @@ module _ {B : Type 0} (kind : Kind B) where
           record {
             asked = h.asked;
             asks = asks_there d.zone d.transition d.matching h.asked h.asks;
-            stands = sym (same_objection h.asked (zones v.zone) (other v.zone) (pairing_of s v) (same v.zone few)) ∙ h.stands;
+            stands = sym (same_against kind h.asked (zones v.zone) (other v.zone) (pairing_of s v) (same v.zone few)) ∙ h.stands;
           }
 
   module _ (net : Net B) (s : State) (zones other : ℕ → Zone B) (same : (p : ℕ) → p ≤ listed_count s → SameZone (zones p) (other p)) where

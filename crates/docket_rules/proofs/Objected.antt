@@ -1,5 +1,5 @@
--- What it means that nothing stands against a page's vouching; and the same stands for zones with the same places and bounds.
---
+-- What it means that nothing stands against a page's vouching; and the same stands for zones with the
+-- same places and bounds, asked for or vouching.
 use Rattle.std.proofs.Common.{◌≡◌, ℕ, Bool, true, false, cond, List, Ok, Err, Result, sym, refl, ap, ◌∙◌}
 use Rattle.std.proofs.lemmas.Bool.{true≢false}
 use Rattle.zone_pages.proofs.Means.{means}
@@ -10,7 +10,7 @@ use Rattle.bounds.specs.Kinds.{Kind}
 use Rattle.zone_pages.specs.Comparison.{bound_exceeds, partners_unsound, places_differ}
 use Rattle.zone_pages.proofs.Comparison.{none_lacks, vouches_from}
 use Rattle.docket_dues.specs.Answered.{SameZone}
-use Rattle.docket_dues.proofs.Same.{vouches_same}
+use Rattle.docket_dues.proofs.Same.{voucher_same, vouches_same}
 use Rattle.zone_walks.specs.Walks.{Matrix}
 use Rattle.zones.specs.Vouching.{Vouches}
 use Rattle.zones.specs.Zones.{Zone}
@@ -52,3 +52,25 @@ module _ {B : Type 0} (kind : Kind B) (page : Zone B) (pairing : List ℕ) where
       (record { places = refl; bounds = same.bounds })
       (record { places = refl; bounds = λ j i p q. sym (same.bounds j i p q) })
       ∙ ap (λ ps. objection_of kind page (record { places = ps; bound = y.bound }) pairing) (sym same.places)
+
+-- the same stands against either of two that vouch
+module _ {B : Type 0} (kind : Kind B) where
+  module _ (asked : Zone B) (pairing places : List ℕ) (x y : Matrix B) where
+    abbrev first : Zone B
+    first = record { places = places; bound = x }
+
+    abbrev second : Zone B
+    second = record { places = places; bound = y }
+
+    either_tried : SameZone first second → SameZone second first → objection_of kind first asked pairing ≡ objection_of kind second asked pairing
+    either_tried there back =
+        last_alike (partners_unsound places asked.places pairing) (places_differ places asked.places pairing) (bound_exceeds kind x asked.bound pairing) (bound_exceeds kind y asked.bound pairing)
+        (λ a b c. (none_lacks kind second asked pairing (voucher_same kind second first asked pairing back (vouches_from kind first asked pairing a b c))).2)
+        (λ a b c. (none_lacks kind first asked pairing (voucher_same kind first second asked pairing there (vouches_from kind second asked pairing a b c))).2)
+
+  pub same_against : (asked x y : Zone B) (pairing : List ℕ) → SameZone x y → objection_of kind x asked pairing ≡ objection_of kind y asked pairing
+  same_against asked x y pairing same =
+      either_tried asked pairing x.places x.bound y.bound
+      (record { places = refl; bounds = same.bounds })
+      (record { places = refl; bounds = λ j i p q. sym (same.bounds j i p q) })
+      ∙ ap (λ ps. objection_of kind (record { places = ps; bound = y.bound }) asked pairing) (sym same.places)

@@ -3,11 +3,12 @@ use Rattle.std.proofs.Common.{◌≡◌, ℕ, zero, suc, ◌+◌, ◌-◌, ◌<�
 use Rattle.std.proofs.lemmas.List.{append_assoc, drop_more, length-take-le, set-append_right, take-append-drop}
 use Rattle.std.proofs.lemmas.List.FromFn.{length-map-range_with_len, map-range_with_len_more}
 use Rattle.std.specs.List.{range_with_len}
+use Rattle.docket.specs.Dockets.{with_part}
 
 module _ {X : Type 0} (f : ℕ → X) (start : ℕ) (old : List X) where
   -- so many items are written from the start on
   abbrev pub Written : ℕ → List X → Type 0
-  Written n now = now ≡ take start old ++ (map f (range_with_len 0 n) ++ drop (start + n) old)
+  Written n now = now ≡ with_part start n (map f (range_with_len 0 n)) old
 
   pub none_written : Written 0 old
   none_written = let e : start + 0 ≡ start = omega arith in sym (ap (λ n. take start old ++ drop n old) e ∙ take-append-drop start old)
@@ -37,7 +38,7 @@ module _ {X : Type 0} (f : ℕ → X) (start : ℕ) (old : List X) where
       ∙ ap (λ xs. first ++ xs) (one_more n x room is)
 
   pub all_written : (n size : ℕ) (now : List X) → size ≤ n → n ≤ size → Written n now → Written size now
-  all_written n size now low high h = let e : n ≡ size = omega (arith, low, high) in h ∙ ap (λ k. take start old ++ (map f (range_with_len 0 k) ++ drop (start + k) old)) e
+  all_written n size now low high h = let e : n ≡ size = omega (arith, low, high) in h ∙ ap (λ k. with_part start k (map f (range_with_len 0 k)) old) e
 
 -- what is past the end of a list reads as 0
 pub padded : (f : ℕ → ℕ) (xs : List ℕ) (a n : ℕ) → ((i : ℕ) → f (a + i) ≡ get_or xs i 0) → length xs ≤ n → map f (range_with_len a n) ≡ xs ++ replicate (n - length xs) 0

@@ -43,6 +43,12 @@ abbrev pub OpenAnswers : {B : Type 0} → Kind B → Net B → Given → (target
 OpenAnswers kind net g target before answer =
     Answers (open_table kind net before.world.state (whole before) g target) answer
 
+-- what then stands where it is taken
+abbrev pub OpenTakes : {B : Type 0} → Kind B → Given → (target : List ℕ) → World B → World B →
+    Answer → Type 0
+OpenTakes kind g target before after answer =
+    answer ≡ Ok tt → Opened kind g (zone_of kind target) before after
+
 -- the rules of a table in their order, what then stands, and that a refusal changes nothing
 pub record Tried {X : Type 0} (rows : List Rule) (Taken : Type 0) (before after : X)
     (answer : Answer) : Type 0 where
@@ -50,9 +56,9 @@ pub record Tried {X : Type 0} (rows : List Rule) (Taken : Type 0) (before after 
   pub refused : (r : CallRefusal) → answer ≡ Err r → after ≡ before
   pub taken : answer ≡ Ok tt → Taken
 
-abbrev pub TriesOpen : {B : Type 0} → Kind B → (net_places : ℕ) → Given → (target : List ℕ) →
+abbrev pub Begun : {B : Type 0} → Kind B → (net_places : ℕ) → Given → (target : List ℕ) →
     World B → World B → Answer → Type 0
-TriesOpen kind net_places g target before after answer =
+Begun kind net_places g target before after answer =
     Tried (initial_rules net_places g ++ record_rules kind net_places target)
     (Opened kind g (zone_of kind target) before after) before after answer
 
@@ -63,8 +69,8 @@ zone_rules kind net_places zone s =
     record_rules kind net_places zone
     ++ rule 26 (Satisfies kind 1 (zone_of kind zone) (marking_of s.initial)) ∷ []
 
-abbrev pub TriesPost : {B : Type 0} → Kind B → (net_places : ℕ) → (zone : List ℕ) → World B →
+abbrev pub Listed : {B : Type 0} → Kind B → (net_places : ℕ) → (zone : List ℕ) → World B →
     World B → Answer → Type 0
-TriesPost kind net_places zone before after answer =
+Listed kind net_places zone before after answer =
     Tried (zone_rules kind net_places zone before.state)
     (Posted kind (zone_of kind zone) before after) before after answer

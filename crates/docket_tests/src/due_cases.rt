@@ -16,7 +16,7 @@ fn places_of(zone: u8) -> &'static [u8] {
     }
 }
 
-// Zone, transition and matching of each item, in order.
+/// Zone, transition and matching of each item, in order.
 pub const ITEMS: [(u8, u8, u16); 10] = [
     (0, 0, 0),
     (1, 0, 0),
@@ -30,6 +30,7 @@ pub const ITEMS: [(u8, u8, u16); 10] = [
     (3, 1, 0),
 ];
 
+/// An item by its three numbers.
 pub fn item(listed: (u8, u8, u16)) -> Item {
     let (zone, transition, matching) = listed;
     Item {

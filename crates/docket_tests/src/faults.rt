@@ -6,6 +6,7 @@ use std::alloc::Global;
 use std::test::Fail;
 use test_records::zone_bytes::{ABOVE_1, MARKED_NO_LIMIT, MINUS_1, NO_LIMIT, record};
 
+/// One thing that is wrong with a record, or nothing.
 #[derive(Clone, Copy, PartialEq, Eq, Debug)]
 pub enum Fault {
     Fine,
@@ -64,7 +65,7 @@ impl Form {
     }
 }
 
-// The record of one token in place 1 of any age, with these faults.
+/// The record of one token in place 1 of any age, with these faults.
 pub fn faulty(heap: Global, faults: [Fault; 2]) -> Result<Vec<u8>, Fail> {
     let mut form = Form {
         header: [1, 0x04, 0, 0, 0, 0, 0, 0, 0, 0, 0, 0],
@@ -82,11 +83,11 @@ pub fn faulty(heap: Global, faults: [Fault; 2]) -> Result<Vec<u8>, Fail> {
     Ok(bytes)
 }
 
-// The faults of a record, in the order in which they are tested, with its number under plain and
-// under marked kind; 0 where it is taken.
+/// The faults of a record, in the order in which they are tested, with its number under plain and
+/// under marked kind; 0 where it is taken.
 pub type Row = ([Fault; 2], u8, u8);
 
-// The number that counts under a kind.
+/// The number that counts under a kind.
 pub fn number_under<B: Bound>(plain: u8, marked: u8) -> u8 {
     if B::make(0, true).is_ok() {
         marked
@@ -95,12 +96,13 @@ pub fn number_under<B: Bound>(plain: u8, marked: u8) -> u8 {
     }
 }
 
+/// The number of a row under a kind.
 pub fn refusal_under<B: Bound>(row: Row) -> u8 {
     number_under::<B>(row.1, row.2)
 }
 
-// Each number alone, by each of its faults; then each two neighbours, and some that lie further
-// apart.
+/// Each number alone, by each of its faults; then each two neighbours, and some that lie further
+/// apart.
 pub const RECORDS: [Row; 33] = [
     // alone
     ([Short, Fine], 20, 20),

@@ -11,11 +11,13 @@ use std::process::Abort;
 use std::test::Fail;
 use zone_drafts::draft::DRAFT_CELLS;
 
-// How many cells and places of the book, and cells of the scratch page, a call is lent.
+/// How many cells and places of the book, and cells of the scratch page, a call is lent.
 pub type Lent = (usize, usize, usize);
 
+/// The lengths that are stated.
 pub const WHOLE: Lent = (BOOK_CELLS, BOOK_PLACES, DRAFT_CELLS);
 
+/// One of them too short, too long, and nothing at all.
 pub const NOT_WHOLE: [Lent; 7] = [
     // cells
     (5183, 512, 169),
@@ -30,6 +32,7 @@ pub const NOT_WHOLE: [Lent; 7] = [
     (0, 0, 0),
 ];
 
+/// A call with what it is given.
 #[derive(Clone, Copy, Debug)]
 pub enum Call<'c> {
     // places and ages of the initial tokens, and the target
@@ -51,7 +54,7 @@ fn answers(docket: &Docket) -> Answers {
     )
 }
 
-// Its memory is longer by one item than what is to be lent.
+/// Its memory is longer by one item than what is to be lent.
 #[derive(Drop)]
 pub struct Fixture<'a, B> {
     pub heap: Global,
@@ -79,7 +82,7 @@ fn scratch_of<B: Bound>(heap: Global, bound: B) -> Result<Vec<B>, Fail> {
 }
 
 impl<'a, B: Bound + PartialEq> Fixture<'a, B> {
-    // A blank docket, whose book has another number in each cell.
+    /// A blank docket, whose book has another number in each cell.
     pub fn blank(heap: Global, bytes: &'a [u8]) -> Result<Fixture<'a, B>, Fail> {
         let mut cells = Vec::new(heap);
         for number in 0..5185 {
@@ -186,7 +189,7 @@ impl<'a, B: Bound + PartialEq> Fixture<'a, B> {
         self.check_scratch(rt, bound, call)
     }
 
-    // A call that is refused with this number; taken where it is 0.
+    /// A call that is refused with this number; taken where it is 0.
     pub fn gives(&mut self, rt: &impl Abort, call: Call<'_>, refusal: u8) -> Result<(), Fail> {
         if refusal == 0 {
             self.takes(rt, call)
@@ -195,7 +198,7 @@ impl<'a, B: Bound + PartialEq> Fixture<'a, B> {
         }
     }
 
-    // The same where it is refused, and another number where it is lent too little or too much.
+    /// The same where it is refused, and another number where it is lent too little or too much.
     pub fn refuses_each(
         &mut self,
         rt: &impl Abort,

@@ -7,27 +7,33 @@ use std::test::Fail;
 use test_records::net_bytes::one_transition;
 use test_records::zone_bytes::record;
 
-// Records by the count and the places of their tokens: two in place 1, in places 1 and 0, two in
-// place 0, one in place 1.
+/// The record, by the count and the places of its tokens, of two in place 1.
 pub const BOTH_IN_1: [u8; 3] = [2, 0x04, 0x10];
 
+/// Of one in place 1 and one in place 0.
 pub const ONE_EACH: [u8; 2] = [2, 0x04];
 
+/// Of two in place 0.
 pub const BOTH_IN_0: [u8; 1] = [2];
 
+/// Of one in place 1.
 pub const ONE_IN_1: [u8; 2] = [1, 0x04];
 
-// Each names a listed zone and pairs 1 with 1 and 2 with 2.
+/// Names listed zone 1, and pairs 1 with 1 and 2 with 2.
 pub const ZONE_1: [u8; 6] = [0x02, 0x24, 0, 0, 0, 0];
 
+/// The same of zone 2.
 pub const ZONE_2: [u8; 6] = [0x04, 0x24, 0, 0, 0, 0];
 
+/// The same of zone 3.
 pub const ZONE_3: [u8; 6] = [0x06, 0x24, 0, 0, 0, 0];
 
+/// A voucher for each item that is due.
 pub const VOUCHERS: [[u8; 6]; 10] = [
     ZONE_1, ZONE_1, ZONE_1, ZONE_2, ZONE_2, ZONE_2, ZONE_2, ZONE_3, ZONE_3, ZONE_3,
 ];
 
+/// A stage of a docket, with one more of a full list.
 #[derive(Clone, Copy, PartialEq, Eq, Debug)]
 pub enum Stage {
     Blank,
@@ -38,6 +44,7 @@ pub enum Stage {
     Sealed,
 }
 
+/// All of them, in order.
 pub const STAGES: [Stage; 5] = [
     Stage::Blank,
     Stage::Listing,
@@ -46,7 +53,7 @@ pub const STAGES: [Stage; 5] = [
     Stage::Sealed,
 ];
 
-// A net of two places: from place 0, age 1 to 2, into place 1 at age 0.
+/// A net of two places: from place 0, age 1 to 2, into place 1 at age 0.
 pub fn two_carriers(heap: Global) -> Result<Vec<u8>, Fail> {
     one_transition(
         heap,
@@ -56,7 +63,7 @@ pub fn two_carriers(heap: Global) -> Result<Vec<u8>, Fail> {
     )
 }
 
-// Opened with a token of age 2 in place 0, with its three zones listed.
+/// Opened with a token of age 2 in place 0, with its three zones listed.
 pub fn listing<'a, B: Bound + PartialEq>(
     rt: &impl Abort,
     heap: Global,
@@ -94,6 +101,7 @@ fn lead_on<B: Bound + PartialEq>(
     Ok(())
 }
 
+/// A docket of the line at this stage.
 pub fn line_at<'a, B: Bound + PartialEq>(
     rt: &impl Abort,
     heap: Global,

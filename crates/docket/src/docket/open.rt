@@ -1,13 +1,12 @@
 // Opening: the initial marking, and the target on page 0.
-ghost use Rattle.docket.specs.Dockets.{OpenAnswers, TriesOpen};
+ghost use Rattle.docket.specs.Dockets.{Begun, OpenAnswers, OpenTakes};
 ghost use Rattle.docket.specs.Gathered.{gathered};
-ghost use Rattle.docket_records.specs.ZoneRecords.{zone_of};
 ghost use Rattle.docket_refusals.specs.declared.refusal.CallRefusal.{CallRefusal as Refused};
-ghost use Rattle.docket_rules.specs.Calls.{Left, Opened};
+ghost use Rattle.docket_rules.specs.Calls.{Left};
 ghost use Rattle.docket_rules.specs.Tables.{given, initial_tokens, too_old};
 ghost use Rattle.docket_rules.specs.Worlds.{book_cells, book_places, lent, with_book};
 ghost use Rattle.std.specs.List.{list_any};
-ghost use Rattle.std.specs.Prelude.{◌≡◌, ◌≤◌, Err, Ok, length, nat_le};
+ghost use Rattle.std.specs.Prelude.{◌≡◌, ◌≤◌, Err, length, nat_le};
 ghost use Rattle.zone_cells.specs.Sizes.{draft_cells};
 
 use crate::docket::Docket;
@@ -85,7 +84,7 @@ impl Docket {
         requires drafted { length draft.old ≡ draft_cells }
         requires even { length ages.now ≡ length initial.now }
         ensures kept { length draft.new ≡ length draft.old }
-        ensures tried { TriesOpen B.Bound.kind net_places (given initial.now ages.now) target.now
+        ensures tried { Begun B.Bound.kind net_places (given initial.now ages.now) target.now
             (with_book self.old cells.old places.old) (with_book self.new cells.new places.new)
             result }
     {
@@ -117,9 +116,9 @@ impl Docket {
         ensures scratch { Left B.Bound.kind result scratch.old scratch.new }
         ensures refused { (r : Refused) → result ≡ Err r →
             with_book self.new cells.new places.new ≡ with_book self.old cells.old places.old }
-        ensures taken { result ≡ Ok tt →
-            Opened B.Bound.kind (given initial.now ages.now) (zone_of B.Bound.kind target.now)
-            (with_book self.old cells.old places.old) (with_book self.new cells.new places.new) }
+        ensures taken { OpenTakes B.Bound.kind (given initial.now ages.now) target.now
+            (with_book self.old cells.old places.old) (with_book self.new cells.new places.new)
+            result }
     {
         if self.stage != Stage::Blank {
             return Err(CallRefusal::WrongStage);

@@ -1,5 +1,5 @@
 // Posting a listed zone.
-ghost use Rattle.docket.specs.Dockets.{TriesPost};
+ghost use Rattle.docket.specs.Dockets.{Listed};
 ghost use Rattle.docket_rules.specs.Calls.{Posts};
 ghost use Rattle.docket_rules.specs.Worlds.{book_cells, book_places, lent, with_book};
 ghost use Rattle.docket_rules.specs.declared.stage.Stage.TheVariants.{Listing};
@@ -33,7 +33,7 @@ impl Docket {
         requires whole { length places.old ≡ book_places }
         requires drafted { length draft.old ≡ draft_cells }
         ensures kept { length draft.new ≡ length draft.old }
-        ensures tried { TriesPost B.Bound.kind net_places zone.now
+        ensures tried { Listed B.Bound.kind net_places zone.now
             (with_book self.old cells.old places.old) (with_book self.new cells.new places.new)
             result }
     {

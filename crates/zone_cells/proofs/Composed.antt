@@ -1,4 +1,4 @@
--- Both predecessors in the cells of a draft, step by step. Assumes nothing.
+-- Both predecessors in the cells of a draft, step by step.
 use Rattle.std.proofs.Common.{◌≡◌, ℕ, zero, suc, ◌+◌, ◌^◌, ◌<◌, ◌≤◌, true, false, ◌⊎◌, List, [], ◌∷◌, length, get_or, sym, refl, ap, ◌∙◌, subst, inl, inr, ⊎_elim, arith}
 use Rattle.std.proofs.lemmas.Bool.{cases_Bool}
 use Rattle.bounds.specs.Kinds.{Kind}

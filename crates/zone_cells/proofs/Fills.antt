@@ -1,4 +1,4 @@
--- Loops that fill a row of a draft, cell after cell, and loops that fill row after row. Assumes nothing.
+-- Loops that fill a row of a draft, cell after cell, and loops that fill row after row.
 use Rattle.std.proofs.Common.{◌≡◌, ℕ, suc, ◌<◌, ◌≤◌, List, length, sym, refl, ap, ◌∙◌, ⊎_elim, arith}
 use Rattle.std.proofs.lemmas.Bool.{cases_eq}
 use Rattle.bounds.specs.Kinds.{Kind}

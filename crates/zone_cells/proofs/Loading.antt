@@ -1,4 +1,4 @@
--- A zone written into a draft, and its normal form there. Assumes nothing.
+-- A zone written into a draft, and its normal form there.
 use Rattle.std.proofs.Common.{◌≡◌, ℕ, zero, suc, ◌+◌, ◌*◌, ◌^◌, ◌<◌, ◌≤◌, Bool, true, false, eqb, List, ◌∷◌, length, take, refl, ap, ◌∙◌, subst, inl, ⊎_elim, mul-le-mul, arith}
 use Rattle.std.proofs.lemmas.List.FromFn.{length-range_with_len}
 use Rattle.std.proofs.lemmas.Bool.{cases_eq, eq-eqb, or_left, or_right}

@@ -1,4 +1,4 @@
--- What the operations on the cells of a draft leave in every cell. Assumes nothing.
+-- What the operations on the cells of a draft leave in every cell.
 use Rattle.std.proofs.Common.{◌≡◌, ℕ, zero, suc, ◌+◌, ◌<◌, ◌≤◌, Bool, true, false, cond, ◌&&◌, eqb, ◌⊎◌, List, [], ◌∷◌, length, get_or, sym, refl, ap, ◌∙◌, subst, inl, inr, ⊎_elim, arith}
 use Rattle.std.proofs.lemmas.Bool.{cases_Bool, cases_eq, cases_lt, eqb-true, eqb-false, ne_eqb, and_left, and_parts, cond-true, cond-false, cond_both, false≢true}
 use Rattle.bounds.specs.Kinds.{Kind, largest_size}

@@ -1,4 +1,4 @@
--- Zones one step back, at the level of matrices: what the operations of delays and firings give. Assumes nothing.
+-- Zones one step back, at the level of matrices: what the operations of delays and firings give.
 use Rattle.std.proofs.Common.{◌≡◌, ℕ, zero, suc, ◌+◌, ◌-◌, ◌*◌, ◌^◌, ◌<◌, ◌≤◌, Bool, true, false, cond, not, ◌&&◌, ◌||◌, eqb, ltb, leb, ◌⊎◌, List, [], ◌∷◌, ◌++◌, map, length, get_or, pos, neg_ℤ, nat_abs, sym, refl, ap, ◌∙◌, subst, subst₂, inl, inr, ⊎_elim, arith, length-append}
 use borrow.Author.Differences.{ints}
 use lib.Signed.{le_z}

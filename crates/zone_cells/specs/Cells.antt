@@ -2,7 +2,8 @@
 --     draft     cells for a zone of up to 12 tokens that is worked on, row by row
 --     page      cells for a zone of up to 8 tokens, row by row
 -- Every operation is a function of all cells, so it says what every cell then holds.
-use Rattle.std.specs.Prelude.{ℕ, zero, suc, ◌+◌, ◌*◌, cond, List, length, ◌==◌, slice_index, slice_index_or, slice_set}
+use Rattle.std.specs.Prelude.{ℕ, zero, suc, ◌+◌, ◌*◌, List, length, ◌==◌, slice_index}
+use Rattle.std.specs.Prelude.{slice_index_or, slice_set, if◌then◌else◌}
 use Rattle.bounds.specs.Kinds.{Kind}
 use Rattle.bounds.specs.declared.range.Range.{Range}
 use Rattle.nets.specs.Nets.{Arc, no_arc}
@@ -33,48 +34,64 @@ lowered kind j i b cells = put j i (lesser kind (in_draft kind cells j i) b) cel
 
 -- ---- the bounds of so many points, row by row
 abbrev pub written : {B : Type 0} → Matrix B → ℕ → List B → List B
-written bounds points cells = times points (λ j c. times points (λ i d. put j i (bounds j i) d) c) cells
+written bounds points cells =
+    times points (λ j c. times points (λ i d. put j i (bounds j i) d) c) cells
 
 -- ---- a round of the elimination: every bound, or the way through the pivot where that is less
 abbrev pub relaxed_row : {B : Type 0} → Kind B → ℕ → ℕ → ℕ → List B → List B
-relaxed_row kind points pivot j cells = times points (λ i c. lowered kind j i (kind.sum (in_draft kind cells j pivot) (in_draft kind c pivot i)) c) cells
+relaxed_row kind points pivot j cells =
+    times points (λ i c.
+    lowered kind j i (kind.sum (in_draft kind cells j pivot) (in_draft kind c pivot i)) c) cells
 
 abbrev pub relaxed_cells : {B : Type 0} → Kind B → ℕ → ℕ → List B → List B
-relaxed_cells kind points pivot cells = times points (λ j c. cond (j == pivot) c (relaxed_row kind points pivot j c)) cells
+relaxed_cells kind points pivot cells =
+    times points (λ j c. if j == pivot then c else relaxed_row kind points pivot j c) cells
 
 -- ---- narrowing
 abbrev pub narrowed_cells : {B : Type 0} → Kind B → ℕ → Range B → List B → List B
-narrowed_cells kind token range cells = lowered kind 0 token range.lower (lowered kind token 0 range.upper cells)
+narrowed_cells kind token range cells =
+    lowered kind 0 token range.lower (lowered kind token 0 range.upper cells)
 
 -- ---- taking tokens off: the kept points' rows and columns close up
 abbrev pub moved_row : {B : Type 0} → Kind B → List ℕ → ℕ → ℕ → List B → List B
-moved_row kind kept points j cells = times points (λ i c. put j i (in_draft kind c (slice_index kept j) (slice_index kept i)) c) cells
+moved_row kind kept points j cells =
+    times points (λ i c.
+    put j i (in_draft kind c (slice_index kept j) (slice_index kept i)) c) cells
 
 abbrev pub picked_cells : {B : Type 0} → Kind B → List ℕ → ℕ → List B → List B
 picked_cells kind kept points cells = times points (λ j c. moved_row kind kept points j c) cells
 
 -- ---- adding a token as point n: its way to every other point leads through the clock
 abbrev pub linked : {B : Type 0} → Kind B → Range B → ℕ → ℕ → List B → List B
-linked kind range n i cells = put i n (kind.sum (in_draft kind cells i 0) range.lower) (put n i (kind.sum range.upper (in_draft kind cells 0 i)) cells)
+linked kind range n i cells =
+    put i n (kind.sum (in_draft kind cells i 0) range.lower)
+    (put n i (kind.sum range.upper (in_draft kind cells 0 i)) cells)
 
 abbrev pub added_cells : {B : Type 0} → Kind B → Range B → ℕ → List B → List B
 added_cells kind range n cells = put n n kind.zero (times n (λ i c. linked kind range n i c) cells)
 
 -- ---- the delay predecessor: in the clock's row the least of zero and the column
 abbrev pub column_least : {B : Type 0} → Kind B → ℕ → ℕ → List B → B
-column_least kind points i cells = times points (λ j b. cond (j == 0) b (lesser kind (in_draft kind cells j i) b)) kind.zero
+column_least kind points i cells =
+    times points (λ j b. if j == 0 then b else lesser kind (in_draft kind cells j i) b) kind.zero
 
 abbrev pub delayed_cells : {B : Type 0} → Kind B → ℕ → List B → List B
-delayed_cells kind points cells = times points (λ i c. cond (i == 0) c (put 0 i (column_least kind points i c) c)) cells
+delayed_cells kind points cells =
+    times points (λ i c. if i == 0 then c else put 0 i (column_least kind points i c) c) cells
 
--- ---- the arcs of a firing, one after the other; an arc that does not exist has the range from 0 without limit
+-- ---- the arcs of a firing, one after the other; an arc that does not exist has the range from 0
+-- without limit
 abbrev pub arc_at : {B : Type 0} → Kind B → List (Arc B) → ℕ → Arc B
 arc_at kind arcs a = slice_index_or arcs a (no_arc kind)
 
 -- every matched token by the range of its output arc
 abbrev pub matched_cells : {B : Type 0} → Kind B → List (Arc B) → List ℕ → List B → List B
-matched_cells kind arcs matching cells = times (length arcs) (λ a c. cond (slice_index matching a == 0) c (narrowed_cells kind (slice_index matching a) (arc_at kind arcs a).range c)) cells
+matched_cells kind arcs matching cells =
+    times (length arcs) (λ a c.
+    if slice_index matching a == 0 then c
+    else narrowed_cells kind (slice_index matching a) (arc_at kind arcs a).range c) cells
 
 -- a token for every input arc, from point n on
 abbrev pub input_cells : {B : Type 0} → Kind B → List (Arc B) → ℕ → List B → List B
-input_cells kind arcs n cells = times (length arcs) (λ a c. added_cells kind (arc_at kind arcs a).range (n + a) c) cells
+input_cells kind arcs n cells =
+    times (length arcs) (λ a c. added_cells kind (arc_at kind arcs a).range (n + a) c) cells

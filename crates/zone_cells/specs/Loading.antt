@@ -14,7 +14,8 @@ nine_points = 0 ∷ 1 ∷ 2 ∷ 3 ∷ 4 ∷ 5 ∷ 6 ∷ 7 ∷ 8 ∷ []
 -- ---- the cells and the answer that are left, whatever the cells held before
 abbrev pub zone_eliminated : {B : Type 0} → Kind B → Zone B → List B → List B × Bool
 zone_eliminated kind z cells =
-    eliminated kind (points z) (take (points z) nine_points) (written (counted kind z.bound) (points z) cells)
+    eliminated kind (points z) (take (points z) nine_points)
+    (written (counted kind z.bound) (points z) cells)
 
 -- ---- the cells hold the normal form of z, which is consistent
 pub record DraftFormed {B : Type 0} (kind : Kind B) (z : Zone B) (cells : List B) : Type 0 where

@@ -1,2 +1,2 @@
-// What operations on cells mean for the zone that the cells hold: theory alone.
+//! What operations on cells mean for the zone that the cells hold: theory alone.
 #![tactic(auto)]

@@ -1,4 +1,4 @@
--- The steps of both predecessors put together. Assumes nothing.
+-- The steps of both predecessors put together.
 use Rattle.std.proofs.Common.{◌≡◌, ℕ, suc, ◌+◌, ◌-◌, ◌<◌, ◌≤◌, Bool, true, false, cond, eqb, List, ◌∷◌, ◌++◌, map, length, get_or, take, drop, sym, ap, ◌∙◌, subst, subst₂, ap₂, arith}
 use Rattle.bounds.specs.Kinds.{Kind}
 use Rattle.zone_cells.specs.Cells.{arc_at, in_draft, matched_cells, narrowed_cells, times, picked_cells, input_cells, delayed_cells}

@@ -10,7 +10,7 @@ pub fn byte(bytes: &[u8], at: usize) -> u8
     bytes.get(at).copied().unwrap_or(0)
 }
 
-// The place of a token, numbered from 1; 0 of any other number.
+/// The place of a token, numbered from 1; 0 of any other number.
 pub fn place_of(places: &[u8], token: u8) -> u8
     ensures { result ≡ numbered places.now token 0 }
 {

@@ -5,7 +5,7 @@ use crate::draft::delay_back;
 use bounds::Bound;
 use zones::MOST_TOKENS;
 
-// Turns a zone of a page into its delay predecessor.
+/// Turns a zone of a page into its delay predecessor.
 pub fn delay_predecessor<B: Bound>(cells: &mut [B], places: &[u8])
     ensures { DelayedBack B.Bound.kind places.now cells.old cells.new }
 {

@@ -1,11 +1,11 @@
-// The firing predecessor: narrow every matched token, settle, take the matched tokens off, add the input arcs' tokens.
-ghost use Rattle.std.specs.Prelude.{◌≡◌, ◌+◌, ◌-◌, ◌<◌, ◌≤◌, ◌++◌, map, length, is_ok, if◌then◌else◌, nat_eq, slice_index};
+// The firing predecessor: narrow every matched token, settle, take the matched tokens off, add the
+// input arcs' tokens.
+ghost use Rattle.std.specs.Prelude.{◌≡◌, ◌+◌, ◌-◌, ◌<◌, ◌≤◌, ◌++◌, map, length, is_ok};
 ghost use Rattle.arrayvec.specs.ArrayVec.{array_vec_len};
-ghost use Rattle.zone_cells.specs.Cells.{matched_cells, input_cells, narrowed_cells};
-ghost use Rattle.nets.specs.Nets.{arc_of, arcs_of, transition_of};
+ghost use Rattle.zone_cells.specs.Cells.{matched_cells, input_cells};
+ghost use Rattle.nets.specs.Nets.{arcs_of};
 ghost use Rattle.nets.specs.declared.side.Side.TheVariants.{Input, Output};
-ghost use Rattle.zone_drafts.specs.Backwards.{FiredBack, Narrowed, Replaced};
-ghost use Rattle.zones.specs.Predecessors.{digits_of};
+ghost use Rattle.zone_drafts.specs.Backwards.{FiringBack, NarrowedFor, ReplacedFor, narrowed_once};
 
 use crate::bytes::byte;
 use crate::draft::{add_token, narrow, take_off};
@@ -16,7 +16,8 @@ use nets::{NetStore, Side};
 use zone_matchings::{arc_count, digits};
 use zones::MOST_TOKENS;
 
-// A transition of a net, for each of its output arcs the token that is matched with it, or 0, and the places of a zone's tokens.
+// A transition of a net, for each of its output arcs the token that is matched with it, or 0, and
+// the places of a zone's tokens.
 #[derive(Drop)]
 struct Firing<'a, N> {
     store: &'a N,
@@ -30,7 +31,9 @@ impl<'a, N> Firing<'a, N> {
     fn narrow_matched<B: Bound>(&self, cells: &mut [B])
     where
         N: NetStore<B>,
-        ensures { cells.new ≡ matched_cells B.Bound.kind (arcs_of (N.NetStore.net self.now.store.now) self.now.transition Output) self.now.matching.now cells.old }
+        ensures { cells.new ≡ matched_cells B.Bound.kind
+            (arcs_of (N.NetStore.net self.now.store.now) self.now.transition Output)
+            self.now.matching.now cells.old }
     {
         for arc in 1..=arc_count(self.store, self.transition, Side::Output) {
             self.narrow_by(arc, cells);
@@ -42,7 +45,8 @@ impl<'a, N> Firing<'a, N> {
     where
         N: NetStore<B>,
         requires { 0 < arc }
-        ensures { cells.new ≡ (if nat_eq (slice_index self.now.matching.now (arc - 1)) 0 then cells.old else narrowed_cells B.Bound.kind (slice_index self.now.matching.now (arc - 1)) (arc_of B.Bound.kind (N.NetStore.net self.now.store.now) self.now.transition Output arc).range cells.old) }
+        ensures { cells.new ≡ narrowed_once B.Bound.kind (N.NetStore.net self.now.store.now)
+            self.now.transition self.now.matching.now arc cells.old }
     {
         let token = byte(self.matching, usize::from(arc) - 1);
         if token != 0 {
@@ -55,7 +59,9 @@ impl<'a, N> Firing<'a, N> {
     fn narrow_all<B: Bound>(&self, cells: &mut [B]) -> Result<(), Inconsistent>
     where
         N: NetStore<B>,
-        ensures { Narrowed B.Bound.kind (transition_of (N.NetStore.net self.now.store.now) self.now.transition) self.now.matching.now self.now.places.now cells.old cells.new (is_ok result) }
+        ensures { NarrowedFor B.Bound.kind (N.NetStore.net self.now.store.now)
+            self.now.transition self.now.matching.now self.now.places.now cells.old cells.new
+            (is_ok result) }
     {
         self.store.keeps_limits();
         let tokens = self.places.len() as u8;
@@ -68,8 +74,11 @@ impl<'a, N> Firing<'a, N> {
     where
         N: NetStore<B>,
         requires { array_vec_len tokens.old ≤ 8 }
-        ensures cells { cells.new ≡ input_cells B.Bound.kind (arcs_of (N.NetStore.net self.now.store.now) self.now.transition Input) (array_vec_len tokens.old + 1) cells.old }
-        ensures tokens { tokens.new.items ≡ tokens.old.items ++ map (λ a. a.place) (arcs_of (N.NetStore.net self.now.store.now) self.now.transition Input) }
+        ensures cells { cells.new ≡ input_cells B.Bound.kind
+            (arcs_of (N.NetStore.net self.now.store.now) self.now.transition Input)
+            (array_vec_len tokens.old + 1) cells.old }
+        ensures tokens { tokens.new.items ≡ tokens.old.items ++ map (λ a. a.place)
+            (arcs_of (N.NetStore.net self.now.store.now) self.now.transition Input) }
     {
         for arc in 1..=arc_count(self.store, self.transition, Side::Input) {
             tokens.push(self.store.place(self.transition, Side::Input, arc));
@@ -82,7 +91,9 @@ impl<'a, N> Firing<'a, N> {
     fn replace<B: Bound>(&self, cells: &mut [B]) -> Tokens
     where
         N: NetStore<B>,
-        ensures { Replaced B.Bound.kind (transition_of (N.NetStore.net self.now.store.now) self.now.transition) self.now.matching.now self.now.places.now cells.old cells.new result.items }
+        ensures { ReplacedFor B.Bound.kind (N.NetStore.net self.now.store.now)
+            self.now.transition self.now.matching.now self.now.places.now cells.old cells.new
+            result.items }
     {
         self.store.keeps_limits();
         let kept = sift(self.places.len() as u8, self.matching, false);
@@ -93,8 +104,8 @@ impl<'a, N> Firing<'a, N> {
     }
 }
 
-// Turns a zone of a page into its firing predecessor, and answers the predecessor's tokens; none where it is void, or where the
-// zone has more than eight tokens.
+/// Turns a zone of a page into its firing predecessor, and answers the predecessor's tokens; none
+/// where it is void, or where the zone has more than eight tokens.
 pub fn firing_predecessor<B: Bound, N: NetStore<B>>(
     cells: &mut [B],
     places: &[u8],
@@ -102,7 +113,8 @@ pub fn firing_predecessor<B: Bound, N: NetStore<B>>(
     transition: u8,
     matching: u16,
 ) -> Option<Tokens>
-    ensures { FiredBack B.Bound.kind (transition_of (N.NetStore.net store.now) transition) (digits_of (arcs_of (N.NetStore.net store.now) transition Output) matching) places.now cells.old cells.new result }
+    ensures { FiringBack B.Bound.kind (N.NetStore.net store.now) transition matching
+        places.now cells.old cells.new result }
 {
     if places.len() > usize::from(MOST_TOKENS) {
         return None;

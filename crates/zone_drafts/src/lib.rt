@@ -1,4 +1,4 @@
-// Zones in lent cells: a draft to work on, and the predecessors made in it.
+//! Zones in lent cells: a draft to work on, and the predecessors made in it.
 #![tactic(auto)]
 
 pub mod bytes;

@@ -1,6 +1,6 @@
 // The tokens of a zone under work, and the points of it that a matching parts.
 ghost use Rattle.arrayvec.specs.ArrayVec.{array_vec_len};
-ghost use Rattle.std.specs.Prelude.{[], ◌++◌, ◌<◌, ◌≡◌, ◌≤◌, ◌∷◌, map, length};
+ghost use Rattle.std.specs.Prelude.{[], ◌++◌, ◌≡◌, ◌≤◌, ◌∷◌, map, length};
 ghost use Rattle.zone_cells.specs.Sifted.{sifted};
 ghost use Rattle.nets.specs.Nets.{numbered};
 
@@ -8,21 +8,11 @@ use crate::bytes::place_of;
 use arrayvec::ArrayVec;
 use zone_matchings::is_among;
 
-// The place of each token of a zone, in fixed memory; a predecessor has up to 12.
+/// The place of each token of a zone, in fixed memory; a predecessor has up to 12.
 pub type Tokens = ArrayVec<u8, 12>;
 
-// One token more, in this place; a thirteenth is dropped.
-pub fn with(tokens: Tokens, place: u8) -> Tokens
-    ensures room { array_vec_len tokens < 12 → result.items ≡ tokens.items ++ place ∷ [] }
-    ensures full { array_vec_len tokens ≡ 12 → result.items ≡ tokens.items }
-{
-    let mut tokens = tokens;
-    let _ = tokens.try_push(place);
-    tokens
-}
-
-// The tokens with these numbers. Pushed one by one, here and below: `collect` wants an allocator, and `extend` answers an
-// AllocError that cannot come.
+// The tokens with these numbers. Pushed one by one, here and below: `collect` wants an allocator,
+// and `extend` answers an AllocError that cannot come.
 pub(crate) fn some_tokens(places: &[u8], numbers: &[u8]) -> Tokens
     requires { length numbers.now ≤ 12 }
     ensures { result.items ≡ map (λ i. numbered places.now i 0) numbers.now }
@@ -37,7 +27,8 @@ pub(crate) fn some_tokens(places: &[u8], numbers: &[u8]) -> Tokens
 // Points of a draft, the clock first.
 pub(crate) type Points = ArrayVec<u8, 13>;
 
-// The clock, and the tokens that are matched, or those that are not: the flag is only compared, so two closures would say no more.
+// The clock, and the tokens that are matched, or those that are not: the flag is only compared, so
+// two closures would say no more.
 pub(crate) fn sift(tokens: u8, matching: &[u8], matched: bool) -> Points
     requires { tokens ≤ 12 }
     ensures { result.items ≡ 0 ∷ sifted matched matching.now 1 tokens }

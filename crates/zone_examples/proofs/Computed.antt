@@ -1,4 +1,4 @@
--- Bounds of small numbers are computed as limits, in every kind; so are normal forms. Assumes nothing.
+-- Bounds of small numbers are computed as limits, in every kind; so are normal forms.
 use Rattle.std.proofs.Common.{◌≡◌, ℕ, zero, suc, ◌<◌, ◌≤◌, Bool, true, false, cond, not, ◌&&◌, ◌||◌, eqb, ltb, leb, ℤ, pos, ◌+ℤ◌, nat_abs, sym, refl, ap, ◌∙◌, subst, ⊎_elim, arith}
 use borrow.Author.Differences.{ints}
 use Rattle.std.proofs.lemmas.Bool.{true≢false, false≢true, cases_Bool, cases_eq, and_parts, leb-true, ltb-true, lt-ltb, eq-eqb, or_left, or_right}

@@ -1,4 +1,4 @@
--- The worked examples hold, over every kind. Assumes nothing.
+-- The worked examples hold, over every kind.
 use Rattle.std.proofs.Common.{◌≡◌, ℕ, zero, suc, Bool, true, false, [], ◌∷◌, ℤ, pos, neg_ℤ, sym, refl, ap, ◌∙◌, subst, arith}
 use lib.Signed.{le_z}
 use Rattle.bounds.specs.Kinds.{Kind, Named, place}

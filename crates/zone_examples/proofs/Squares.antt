@@ -1,4 +1,4 @@
--- The matrices of the rules, computed as limits. Assumes nothing.
+-- The matrices of the rules, computed as limits.
 use Rattle.std.proofs.Common.{◌≡◌, ℕ, zero, suc, ◌≤◌, Bool, true, false, cond, ◌&&◌, ◌||◌, eqb, [], ◌∷◌, sym, refl, ap, ◌∙◌, arith}
 use Rattle.std.proofs.lemmas.Bool.{and_parts}
 use Rattle.bounds.specs.Kinds.{Kind}

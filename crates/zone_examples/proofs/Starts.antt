@@ -1,4 +1,4 @@
--- Which initial markings satisfy small zones, over every kind. Assumes nothing.
+-- Which initial markings satisfy small zones, over every kind.
 use Rattle.std.proofs.Common.{◌≡◌, ℕ, zero, suc, true, false, List, [], ◌∷◌, ◌++◌, map, length, pos, ◌-ℤ◌, sym, refl, ap, ◌∙◌, arith}
 use Rattle.std.proofs.lemmas.Bool.{both_ways}
 use Rattle.bounds.specs.Kinds.{Kind}

@@ -1,4 +1,4 @@
-// Worked examples of the rules: theory alone, on the contract of a function that does nothing.
+//! Worked examples of the rules: theory alone, on the contract of a function that does nothing.
 #![tactic(auto)]
 
 pub mod worked;

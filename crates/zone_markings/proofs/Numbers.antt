@@ -1,4 +1,4 @@
--- Lists of numbers without repetition: one more, another order, and tests of all or of some. Assumes nothing.
+-- Lists of numbers without repetition: one more, another order, and tests of all or of some.
 use Rattle.std.proofs.Common.{◌≡◌, ℕ, zero, suc, ◌+◌, ◌<◌, ◌≤◌, Bool, true, false, ◌||◌, eqb, List, [], ◌∷◌, ◌++◌, length, get_or, sym, refl, ap, ◌∙◌, subst, ⊎_elim, arith}
 use Rattle.std.proofs.lemmas.Bool.{cases_eq, eqb-false, ne_eqb, and_parts, and_from, or_cases, or_parts, or_from, or_left, or_right, false≢true}
 use Rattle.std.specs.List.{list_any, list_all, range_with_len, zip}

@@ -1,4 +1,4 @@
--- The marking that initial tokens are. Assumes nothing.
+-- The marking that initial tokens are.
 use Rattle.std.specs.Prelude.{ℕ, List, map}
 use Rattle.docket_records.specs.declared.token.InitialToken.{InitialToken}
 use Rattle.nets.specs.Markings.{Token, Marking}

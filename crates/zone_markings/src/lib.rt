@@ -1,4 +1,4 @@
-// Initial markings: whether one satisfies a zone.
+//! Initial markings: whether one satisfies a zone.
 #![tactic(auto)]
 
 mod pairing;

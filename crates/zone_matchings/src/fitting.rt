@@ -6,6 +6,7 @@ ghost use Rattle.std.specs.Prelude.{◌≡◌};
 use crate::counted::numbered;
 use crate::outputs::Outputs;
 
+/// Whether the token is one of the digits.
 pub fn is_among(token: u8, digits: &[u8]) -> bool
     ensures { result ≡ among_spec token digits.now }
 {
@@ -31,7 +32,8 @@ impl<'a> Outputs<'a> {
             || arc.is_some_and(|place| stands_in(tokens, digit, *place)) && !is_among(digit, before)
     }
 
-    // How many digits from the first on fit. By index, since each digit is tested after all those before it.
+    // How many digits from the first on fit. By index, since each digit is tested after all those
+    // before it.
     pub(crate) fn count_fitting(&self, digits: &[u8]) -> usize
         ensures { Fitting self.now.arcs.items self.now.tokens.now digits.now result }
     {

@@ -1,4 +1,4 @@
-// Matchings as numbers of 16 bits: which are matchings, and the next one in ascending order.
+//! Matchings as numbers of 16 bits: which are matchings, and the next one in ascending order.
 #![tactic(auto)]
 
 mod counted;

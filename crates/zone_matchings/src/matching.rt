@@ -11,7 +11,7 @@ use arrayvec::ArrayVec;
 use bounds::Bound;
 use nets::{NetStore, Side};
 
-// How many arcs the transition has on the side.
+/// How many arcs the transition has on the side.
 pub fn arc_count<B: Bound, N: NetStore<B>>(store: &N, transition: u8, side: Side) -> u8
     ensures is { result ≡ length (arcs_of (N.NetStore.net store.now) transition side) }
     ensures few { result ≤ 4 }
@@ -21,9 +21,11 @@ pub fn arc_count<B: Bound, N: NetStore<B>>(store: &N, transition: u8, side: Side
 }
 
 impl<'a> Outputs<'a> {
-    // Those of a transition, with tokens in these places. Pushed one by one: `collect` wants an allocator, which fixed memory has not.
+    // Those of a transition, with tokens in these places. Pushed one by one: `collect` wants an
+    // allocator, which fixed memory has not.
     fn of<B: Bound, N: NetStore<B>>(store: &N, transition: u8, tokens: &'a [u8]) -> Outputs<'a>
-        ensures are { result.arcs.items ≡ map (λ a. a.place) (arcs_of (N.NetStore.net store.now) transition Output) }
+        ensures are { result.arcs.items ≡ map (λ a. a.place)
+            (arcs_of (N.NetStore.net store.now) transition Output) }
         ensures few { length (arcs_of (N.NetStore.net store.now) transition Output) ≤ 4 }
         ensures tokens { result.tokens.now ≡ tokens.now }
     {
@@ -35,26 +37,28 @@ impl<'a> Outputs<'a> {
     }
 }
 
-// Whether the number says a matching with tokens in these places.
+/// Whether the number says a matching with tokens in these places.
 pub fn is_matching<B: Bound, N: NetStore<B>>(
     store: &N,
     transition: u8,
     places: &[u8],
     matching: u16,
 ) -> bool
-    ensures { result ≡ is_matching places.now (arcs_of (N.NetStore.net store.now) transition Output) matching }
+    ensures { result ≡ is_matching places.now
+        (arcs_of (N.NetStore.net store.now) transition Output) matching }
 {
     Outputs::of(store, transition, places).count_fitting(&digits(matching)) == 4
 }
 
-// The next matching above a number, which need not be one.
+/// The next matching above a number, which need not be one.
 pub fn next_matching<B: Bound, N: NetStore<B>>(
     store: &N,
     transition: u8,
     places: &[u8],
     after: u16,
 ) -> Option<u16>
-    ensures { Next (is_matching places.now (arcs_of (N.NetStore.net store.now) transition Output)) after result }
+    ensures { Next (is_matching places.now (arcs_of (N.NetStore.net store.now) transition Output))
+        after result }
 {
     Outputs::of(store, transition, places).next(after)
 }

@@ -11,7 +11,8 @@ impl<'a> Outputs<'a> {
     // The least digit above this one that fits after those before.
     fn next_digit(&self, before: &[u8], digit: u8) -> Option<u8>
         requires { digit < 16 }
-        ensures { NextBelow 16 (fit_spec self.now.arcs.items self.now.tokens.now before.now) digit result }
+        ensures { NextBelow 16 (fit_spec self.now.arcs.items self.now.tokens.now before.now) digit
+            result }
     {
         (digit + 1..16).find(|next| self.fits(before, *next))
     }
@@ -19,7 +20,8 @@ impl<'a> Outputs<'a> {
     // The last digit that can be raised is, and the later ones become 0.
     // Digits behind one that does not fit do not matter.
     pub(crate) fn next(&self, after: u16) -> Option<u16>
-        ensures { Next (λ n. all_fit self.now.arcs.items self.now.tokens.now [] (fields n)) after result }
+        ensures { Next (λ n. all_fit self.now.arcs.items self.now.tokens.now [] (fields n)) after
+            result }
     {
         let digits = digits(after);
         let fitting = self.count_fitting(&digits);

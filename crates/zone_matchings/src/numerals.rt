@@ -3,6 +3,7 @@ ghost use Rattle.std.specs.Prelude.{◌≡◌, ◌<◌};
 ghost use Rattle.zones.specs.Digits.{raised};
 ghost use Rattle.zones.specs.Predecessors.{fields};
 
+/// The four digits, the first topmost.
 pub fn digits(number: u16) -> [u8; 4]
     ensures { result ≡ fields number }
 {
@@ -15,7 +16,8 @@ pub(crate) fn raise(number: u16, position: usize, digit: u8) -> u16
     ensures { result ≡ raised number position digit }
 {
     let digit = u16::from(digit);
-    // With the position's power of 16 in their place, 16 times the first one would need more than 16 bits.
+    // With the position's power of 16 in their place, 16 times the first one would need more than
+    // 16 bits.
     match position {
         0 => digit * 4096,
         1 => number / 4096 * 4096 + digit * 256,

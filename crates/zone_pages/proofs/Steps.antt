@@ -1,4 +1,4 @@
--- What calls that all answer alike leave in cells. Assumes nothing.
+-- What calls that all answer alike leave in cells.
 use Rattle.std.proofs.Common.{◌≡◌, List, [], ◌∷◌, length, replicate, refl, ap, ◌∙◌}
 use Rattle.std.specs.List.{FoldsTo}
 

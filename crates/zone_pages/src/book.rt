@@ -44,10 +44,13 @@ fn part<X>(items: &[X], start: usize, size: usize) -> &[X]
 }
 
 impl<'a, B: Bound> Book<'a, B> {
-    /// The page with this number, from 0, and its first places. What lies past the book's end is none.
+    /// The page with this number, from 0, and its first places. What lies past the book's end is
+    /// none.
     pub fn page(&self, number: u8, tokens: u8) -> Page<'a, B>
-        ensures cells { result.cells.now ≡ take page_cells (drop (page_cells * number) self.now.cells.now) }
-        ensures places { result.places.now ≡ take tokens (drop (page_places * number) self.now.places.now) }
+        ensures cells { result.cells.now ≡
+            take page_cells (drop (page_cells * number) self.now.cells.now) }
+        ensures places { result.places.now ≡
+            take tokens (drop (page_places * number) self.now.places.now) }
     {
         let number = usize::from(number);
         Page {
@@ -58,22 +61,26 @@ impl<'a, B: Bound> Book<'a, B> {
 }
 
 impl<B: Bound> Page<'_, B> {
+    /// The bound of point j against point i; no limit outside the page.
     pub fn bound(&self, j: u8, i: u8) -> B
         ensures { result ≡ in_page B.Bound.kind self.now.cells.now j i }
     {
         self.at(usize::from(j), usize::from(i))
     }
 
-    // A place outside the page reads as no limit. No slice reaches as far as the largest number, so a place past it is none either way.
+    // A place outside the page reads as no limit. No slice reaches as far as the largest number, so
+    // a place past it is none either way.
     pub(crate) fn at(&self, j: usize, i: usize) -> B
         ensures { result ≡ in_page B.Bound.kind self.now.cells.now j i }
     {
         cell(self.cells, j.saturating_mul(PAGE_ROW).saturating_add(i))
     }
 
-    // Writes the zone into a draft; one of more than eight tokens is none of the book's, and is left.
+    /// Writes the zone into a draft; one of more than eight tokens is none of the book's, and is
+    /// left.
     pub fn load(&self, draft: &mut [B])
-        ensures { draft.new ≡ written (in_page B.Bound.kind self.now.cells.now) (page_points self.now.places.now) draft.old }
+        ensures { draft.new ≡ written (in_page B.Bound.kind self.now.cells.now)
+            (page_points self.now.places.now) draft.old }
     {
         if self.places.len() <= PAGE_PLACES {
             let points = self.places.len() as u8 + 1;

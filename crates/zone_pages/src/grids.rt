@@ -3,7 +3,7 @@ ghost use Rattle.std.specs.Prelude.{◌≡◌, length, replicate};
 
 use bounds::Bound;
 
-// Leaves no limit in every cell.
+/// Leaves no limit in every cell.
 pub fn wipe<B: Bound>(cells: &mut [B])
     ensures { cells.new ≡ replicate (length cells.old) B.Bound.kind.no_limit }
 {

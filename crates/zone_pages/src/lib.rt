@@ -1,4 +1,4 @@
-// Pages of the zone book, and whether a page's zone vouches for a zone in a draft.
+//! Pages of the zone book, and whether a page's zone vouches for a zone in a draft.
 #![tactic(auto)]
 
 pub mod book;

@@ -1,8 +1,8 @@
 // Whether a page's zone vouches for a zone in a draft, and what stands against it.
-ghost use Rattle.zone_pages.specs.Objections.{objection_of, Means};
-ghost use Rattle.zone_pages.specs.Comparison.{partner_taken, partner_unsound, partners_unsound, places_differ, exceeds, exceeds_in_row, bound_exceeds};
-ghost use Rattle.zone_cells.specs.Cells.{in_draft, in_page};
-ghost use Rattle.zone_cells.specs.Drafts.{draft_zone, page_zone};
+ghost use Rattle.zone_pages.specs.Objections.{Means, asked_zone, objection_of, vouching_zone};
+ghost use Rattle.zone_pages.specs.Comparison.{partner_taken, partner_unsound, partners_unsound};
+ghost use Rattle.zone_pages.specs.Comparison.{places_differ, exceeds, exceeds_in_row};
+ghost use Rattle.zone_pages.specs.Comparison.{bound_exceeds};
 ghost use Rattle.zones.specs.Vouching.{partner};
 ghost use Rattle.std.specs.Prelude.{◌≡◌, length};
 
@@ -13,10 +13,12 @@ use zone_drafts::bytes::{byte, place_of};
 use zone_drafts::draft::bound_at;
 use zone_matchings::numbered;
 
-// The zone that a page is to vouch for, in a draft: 13 cells to a row, where a page has 9.
+/// The zone that a page is to vouch for, in a draft: 13 cells to a row, where a page has 9.
 #[derive(Clone, Copy)]
 pub struct Asked<'a, B> {
+    /// Its bounds.
     pub cells: &'a [B],
+    /// The place of each of its tokens.
     pub places: &'a [u8],
 }
 
@@ -50,9 +52,10 @@ impl<B: Bound> Claim<'_, B> {
             .any(|earlier| *earlier == partner)
     }
 
-    // Whether the partner of token k is no token of the item, or is taken.
+    // Whether the partner of token k is no token of the zone asked for, or is taken.
     fn is_unsound(&self, k: usize) -> bool
-        ensures { result ≡ partner_unsound (length self.now.asked.places.now) self.now.pairing.now k }
+        ensures { result ≡ partner_unsound
+            (length self.now.asked.places.now) self.now.pairing.now k }
     {
         let partner = usize::from(byte(self.pairing, k));
         !(1..=self.asked.places.len()).contains(&partner) || self.is_taken(k)
@@ -60,7 +63,8 @@ impl<B: Bound> Claim<'_, B> {
 
     // By number here and below, since each test takes the number of a token or a point.
     fn lacks_partners(&self) -> bool
-        ensures { result ≡ partners_unsound self.now.page.places.now self.now.asked.places.now self.now.pairing.now }
+        ensures { result ≡ partners_unsound self.now.page.places.now self.now.asked.places.now
+            self.now.pairing.now }
     {
         self.pairing.len() != self.page.places.len()
             || (0..self.pairing.len()).any(|k| self.is_unsound(k))
@@ -68,38 +72,44 @@ impl<B: Bound> Claim<'_, B> {
 
     // Not by `zip`, since the pairing and the page's places may differ in length.
     fn places_differ(&self) -> bool
-        ensures { result ≡ places_differ self.now.page.places.now self.now.asked.places.now self.now.pairing.now }
+        ensures { result ≡ places_differ self.now.page.places.now self.now.asked.places.now
+            self.now.pairing.now }
     {
         (0..self.pairing.len()).any(|k| {
             place_of(self.asked.places, byte(self.pairing, k)) != byte(self.page.places, k)
         })
     }
 
-    // Whether the item's bound of the partners of two points is larger than the page's of the points.
+    // Whether the bound asked for between the partners of two points is larger than the page's.
     fn exceeds(&self, j: usize, i: usize) -> bool
-        ensures { result ≡ exceeds B.Bound.kind (in_page B.Bound.kind self.now.page.cells.now) (in_draft B.Bound.kind self.now.asked.cells.now) self.now.pairing.now j i }
+        ensures { result ≡ exceeds B.Bound.kind (vouching_zone B.Bound.kind self.now).bound
+            (asked_zone B.Bound.kind self.now).bound self.now.pairing.now j i }
     {
-        let of_item = bound_at(self.asked.cells, self.partner(j), self.partner(i));
+        let asked = bound_at(self.asked.cells, self.partner(j), self.partner(i));
         let of_page = self.page.at(j, i);
-        j != i && !of_item.at_most(of_page)
+        j != i && !asked.at_most(of_page)
     }
 
     fn row_exceeds(&self, j: usize) -> bool
-        ensures { result ≡ exceeds_in_row B.Bound.kind (in_page B.Bound.kind self.now.page.cells.now) (in_draft B.Bound.kind self.now.asked.cells.now) self.now.pairing.now j }
+        ensures { result ≡ exceeds_in_row B.Bound.kind (vouching_zone B.Bound.kind self.now).bound
+            (asked_zone B.Bound.kind self.now).bound self.now.pairing.now j }
     {
         (0..self.pairing.len() + 1).any(|i| self.exceeds(j, i))
     }
 
     fn some_exceeds(&self) -> bool
-        ensures { result ≡ bound_exceeds B.Bound.kind (in_page B.Bound.kind self.now.page.cells.now) (in_draft B.Bound.kind self.now.asked.cells.now) self.now.pairing.now }
+        ensures { result ≡ bound_exceeds B.Bound.kind (vouching_zone B.Bound.kind self.now).bound
+            (asked_zone B.Bound.kind self.now).bound self.now.pairing.now }
     {
         (0..self.pairing.len() + 1).any(|j| self.row_exceeds(j))
     }
 
-    // What stands against the claim, the lowest number first.
+    /// What stands against the claim, the lowest number first.
     pub fn check(&self) -> Result<(), Objection>
-        ensures is { result ≡ objection_of B.Bound.kind (page_zone B.Bound.kind self.now.page.places.now self.now.page.cells.now) (draft_zone B.Bound.kind self.now.asked.places.now self.now.asked.cells.now) self.now.pairing.now }
-        ensures means { Means B.Bound.kind (page_zone B.Bound.kind self.now.page.places.now self.now.page.cells.now) (draft_zone B.Bound.kind self.now.asked.places.now self.now.asked.cells.now) self.now.pairing.now result }
+        ensures is { result ≡ objection_of B.Bound.kind (vouching_zone B.Bound.kind self.now)
+            (asked_zone B.Bound.kind self.now) self.now.pairing.now }
+        ensures means { Means B.Bound.kind (vouching_zone B.Bound.kind self.now)
+            (asked_zone B.Bound.kind self.now) self.now.pairing.now result }
     {
         if self.lacks_partners() {
             Err(Objection::Partner)

@@ -1,4 +1,4 @@
--- Tokens listed one after the other, each in the place that a function gives its number. Assumes nothing.
+-- Tokens listed one after the other, each in the place that a function gives its number.
 use Rattle.std.proofs.Common.{◌≡◌, ℕ, ◌+◌, ◌-◌, ◌≤◌, List, [], ◌∷◌, ◌++◌, map, sym, ap, ◌∙◌, arith}
 use Rattle.std.proofs.lemmas.List.FromFn.{map-range_with_len_more}
 use Rattle.std.specs.List.{range_with_len}

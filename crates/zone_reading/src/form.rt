@@ -27,15 +27,18 @@ pub(crate) struct TestedRecord<'a> {
 // Nothing is known of a record's bounds, so every point is a pivot.
 fn settle_all<B: Bound>(cells: &mut [B], tokens: u8) -> Result<(), Inconsistent>
     requires { tokens ≤ 8 }
-    ensures { Settles B.Bound.kind (tokens + 1) (take (tokens + 1) nine_points) cells.old cells.new (is_ok result) }
+    ensures { Settles B.Bound.kind (tokens + 1) (take (tokens + 1) nine_points) cells.old cells.new
+        (is_ok result) }
 {
     settle(cells, tokens + 1, &POINTS[..=usize::from(tokens)])
 }
 
 impl<'a> TestedRecord<'a> {
-    // A bound as it counts: no age is below zero, so a bound of the clock's row above zero counts as zero.
+    // A bound as it counts: no age is below zero, so a bound of the clock's row above zero counts
+    // as zero.
     fn counted_bound<B: Bound>(&self, j: u8, i: u8) -> B
-        ensures { result ≡ counted B.Bound.kind (bound_at B.Bound.kind self.now.record.bytes.now) j i }
+        ensures { result ≡ counted B.Bound.kind
+            (bound_at B.Bound.kind self.now.record.bytes.now) j i }
     {
         if j == i {
             return B::zero();
@@ -50,8 +53,11 @@ impl<'a> TestedRecord<'a> {
 
     pub(crate) fn form<B: Bound>(&self, cells: &mut [B]) -> Result<(), Inconsistent>
         ensures kept { length cells.new ≡ length cells.old }
-        ensures run { (cells.new, is_ok result) ≡ zone_eliminated B.Bound.kind (zone_of B.Bound.kind self.now.record.bytes.now) cells.old }
-        ensures formed { length cells.old ≡ draft_cells → DraftFormedOr B.Bound.kind (zone_of B.Bound.kind self.now.record.bytes.now) cells.new (is_ok result) }
+        ensures run { (cells.new, is_ok result) ≡ zone_eliminated B.Bound.kind
+            (zone_of B.Bound.kind self.now.record.bytes.now) cells.old }
+        ensures formed { length cells.old ≡ draft_cells →
+            DraftFormedOr B.Bound.kind (zone_of B.Bound.kind self.now.record.bytes.now) cells.new
+            (is_ok result) }
     {
         let tokens = self.record.tokens();
         fill(cells, tokens + 1, |j, i| self.counted_bound(j, i));
@@ -61,7 +67,8 @@ impl<'a> TestedRecord<'a> {
     // Pushed one by one: `collect` wants an allocator, which fixed memory has not.
     #[tactic(auto, using(crate::proofs::Places::place_listed))]
     pub(crate) fn places(&self) -> Tokens
-        ensures { result.items ≡ map (place_at self.now.record.bytes.now) (range_with_len 1 (tokens_of self.now.record.bytes.now)) }
+        ensures { result.items ≡ map (place_at self.now.record.bytes.now)
+            (range_with_len 1 (tokens_of self.now.record.bytes.now)) }
     {
         let mut places = Tokens::new();
         for token in 1..=self.record.tokens() {

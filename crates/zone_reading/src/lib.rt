@@ -1,4 +1,4 @@
-// Zone records read into a draft, in normal form.
+//! Zone records read into a draft, in normal form.
 #![tactic(auto)]
 
 mod form;

@@ -8,8 +8,8 @@ use docket_records::fault::EntryRefusal;
 use docket_records::zone::ZoneRecord;
 use zone_drafts::tokens::Tokens;
 
-// Reads a record under a net of so many places into 169 cells, in normal form. A record that is refused by its bytes alone leaves
-// the cells as they were.
+/// Reads a record under a net of so many places into 169 cells, in normal form. A record that is
+/// refused by its bytes alone leaves the cells as they were.
 pub fn read_zone<B: Bound>(
     bytes: &[u8],
     places: u8,

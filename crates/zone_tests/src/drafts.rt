@@ -13,7 +13,7 @@ pub fn number(n: i32) -> PlainBound {
     bound_of(n, false)
 }
 
-// The normal form of a record under a net of three places.
+/// The normal form of a record under a net of three places.
 pub fn draft(heap: Global, header: &[u8], listed: &[Listed]) -> Result<Draft, Fail> {
     let mut cells = [PlainBound::no_limit(); DRAFT_CELLS];
     read_zone(&record(heap, header, listed)?, 3, &mut cells)?;

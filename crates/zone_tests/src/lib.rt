@@ -1,4 +1,5 @@
-// Zones of every layer, worked out by hand from the rules: records, normal forms, predecessors, vouching.
+//! Zones of every layer, worked out by hand from the rules: records, normal forms, predecessors,
+//! vouching.
 #![tactic(auto)]
 
 #[cfg(test)]

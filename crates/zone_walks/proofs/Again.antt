@@ -1,4 +1,4 @@
--- The normal form of a normal form is itself. Assumes nothing.
+-- The normal form of a normal form is itself.
 use Rattle.std.proofs.Common.{◌≡◌, ℕ, ◌*◌, ◌^◌, ◌<◌, ◌≤◌, true, eqb, sym, refl, ap, ◌∙◌, subst, mul-le-mul, arith}
 use Rattle.std.proofs.lemmas.Bool.{cond-true, cond_both, eqb-true, eq-eqb}
 use Rattle.bounds.specs.Kinds.{Kind}

@@ -1,4 +1,4 @@
--- Matrices in which every two legs are no shorter than one. Assumes nothing.
+-- Matrices in which every two legs are no shorter than one.
 use Rattle.std.proofs.Common.{◌≡◌, ℕ, ◌<◌, true}
 use Rattle.bounds.specs.Kinds.{Kind}
 use Rattle.zone_walks.specs.Walks.{Matrix, lesser, Still, Settled}

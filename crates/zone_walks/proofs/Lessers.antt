@@ -1,4 +1,4 @@
--- The order of a kind, and the lesser of two bounds. Assumes nothing.
+-- The order of a kind, and the lesser of two bounds.
 use Rattle.std.proofs.Common.{◌≡◌, ℕ, ◌≤◌, true, false, ◌⊎◌, sym, ◌∙◌, subst, inl, inr, ⊎_elim}
 use Rattle.std.proofs.lemmas.Bool.{cases_Bool, cond-true, cond-false, cond_both, false≢true}
 use Rattle.bounds.specs.Kinds.{Kind}

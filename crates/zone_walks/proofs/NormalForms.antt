@@ -1,4 +1,4 @@
--- Normal forms and closed matrices, and the laws of normal forms but for their existence. Assumes nothing.
+-- Normal forms and closed matrices, and the laws of normal forms but for their existence.
 use Rattle.std.proofs.Common.{◌≡◌, ℕ, suc, ◌+◌, ◌*◌, ◌^◌, ◌<◌, ◌≤◌, true, false, List, [], ◌∷◌, length, ℤ, pos, ◌+ℤ◌, ◌-ℤ◌, sym, refl, ap, ◌∙◌, subst, ⊎_elim, mul-le-mul_right, arith}
 use borrow.Author.Differences.{ints}
 use Rattle.std.proofs.lemmas.Bool.{cases_Bool, true≢false}

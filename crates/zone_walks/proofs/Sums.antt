@@ -1,4 +1,4 @@
--- Sums of bounds within the sizes, and sums of walks. Assumes nothing.
+-- Sums of bounds within the sizes, and sums of walks.
 use Rattle.std.proofs.Common.{◌≡◌, ℕ, ◌+◌, ◌*◌, ◌^◌, ◌<◌, ◌≤◌, true, List, [], ◌∷◌, ◌++◌, length, sym, refl, ap, ◌∙◌, add-le-add, mul-le-mul_right, mul-le-mul, arith, length-append}
 use Rattle.bounds.specs.Kinds.{Kind, largest_size}
 use Rattle.zone_walks.specs.Walks.{Matrix, walk_end, walk_sum, Inside, Walk, Reached, Sized}

@@ -1,5 +1,4 @@
 -- What holds of every normal form, over every kind of bounds.
--- Assumes nothing.
 use Rattle.std.specs.Prelude.{◌≡◌, ℕ, ◌^◌, ◌<◌, ◌≤◌, ◌⊎◌, ℤ}
 use Rattle.bounds.specs.Kinds.{Kind}
 use Rattle.zone_walks.specs.Walks.{Matrix, Negative, NormalForm, Sized, Still, AgesAllowed}
@@ -19,11 +18,16 @@ pub record Formed {B : Type 0} (kind : Kind B) (n : ℕ) (x : Matrix B) : Type 0
 
 pub record NormalFormLaws {B : Type 0} (kind : Kind B) : Type 0 where
   -- bounds with no negative walk have a normal form
-  pub exists : (n : ℕ) (x : Matrix B) → n ≤ most_points → Sized kind n largest_entry x → Still kind n x → Negative kind n x ⊎ Formed kind n x
+  pub exists : (n : ℕ) (x : Matrix B) → n ≤ most_points → Sized kind n largest_entry x →
+      Still kind n x → Negative kind n x ⊎ Formed kind n x
   -- there is only one
-  pub unique : (n : ℕ) (x y z : Matrix B) → NormalForm kind n x y → NormalForm kind n x z → (j i : ℕ) → j < n → i < n → y j i ≡ z j i
+  pub unique : (n : ℕ) (x y z : Matrix B) → NormalForm kind n x y → NormalForm kind n x z →
+      (j i : ℕ) → j < n → i < n → y j i ≡ z j i
   -- the same ages meet it, on every grid
-  pub to_form : (n k : ℕ) (x y : Matrix B) (age : ℕ → ℤ) → 1 ≤ k → NormalForm kind n x y → AgesAllowed kind k n x age → AgesAllowed kind k n y age
-  pub from_form : (n k : ℕ) (x y : Matrix B) (age : ℕ → ℤ) → 1 ≤ k → Sized kind n largest_entry x → NormalForm kind n x y → AgesAllowed kind k n y age → AgesAllowed kind k n x age
+  pub to_form : (n k : ℕ) (x y : Matrix B) (age : ℕ → ℤ) → 1 ≤ k → NormalForm kind n x y →
+      AgesAllowed kind k n x age → AgesAllowed kind k n y age
+  pub from_form : (n k : ℕ) (x y : Matrix B) (age : ℕ → ℤ) → 1 ≤ k → Sized kind n largest_entry x →
+      NormalForm kind n x y → AgesAllowed kind k n y age → AgesAllowed kind k n x age
   -- bounds with a negative walk are met by no ages, on any grid
-  pub none : (n k : ℕ) (x : Matrix B) (age : ℕ → ℤ) → 1 ≤ k → Negative kind n x → AgesAllowed kind k n x age → ⊥
+  pub none : (n k : ℕ) (x : Matrix B) (age : ℕ → ℤ) → 1 ≤ k → Negative kind n x →
+      AgesAllowed kind k n x age → ⊥

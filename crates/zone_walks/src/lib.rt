@@ -1,4 +1,5 @@
-// Walks over bounds and their normal forms: theory alone, on the contract of a function that does nothing.
+//! Walks over bounds and their normal forms: theory alone, on the contract of a function that does
+//! nothing.
 #![tactic(auto)]
 
 pub mod laws;

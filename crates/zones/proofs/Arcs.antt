@@ -1,4 +1,4 @@
--- The arcs of a transition: at most four on a side. Assumes nothing.
+-- The arcs of a transition: at most four on a side.
 use Rattle.std.proofs.Common.{ℕ, zero, suc, ◌≤◌, List, [], ◌∷◌, length, get_or, arith}
 use Rattle.bounds.specs.Kinds.{Kind}
 use Rattle.nets.specs.Nets.{Transition, TransitionLimits, Net, Limits, Every, arcs_of, no_transition, transition_of}

@@ -1,4 +1,4 @@
--- One element taken out of a list, and permuted lists that are images of others. Assumes nothing.
+-- One element taken out of a list, and permuted lists that are images of others.
 use Rattle.std.proofs.Common.{◌≡◌, ℕ, ◌⊎◌, List, [], ◌∷◌, ◌++◌, map, sym, refl, ap, inl, inr, arith}
 use Rattle.nets.specs.Markings.{Permuted}
 use Rattle.nets.specs.Markings.Permuted.{none, keep, swap, join}

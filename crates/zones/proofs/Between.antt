@@ -1,4 +1,4 @@
--- Bounds between points, as ages meet them: what is counted, and what is not. Assumes nothing.
+-- Bounds between points, as ages meet them: what is counted, and what is not.
 use Rattle.std.proofs.Common.{◌≡◌, ℕ, zero, suc, ◌<◌, ◌≤◌, true, false, cond, eqb, List, get_or, ℤ, pos, ◌-ℤ◌, sym, ap, ◌∙◌, subst, arith}
 use borrow.Author.Differences.{ints}
 use lib.Signed.{le_z}

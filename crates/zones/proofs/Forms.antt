@@ -1,4 +1,4 @@
--- A marking satisfies a zone as it satisfies the zone's normal form. Assumes nothing.
+-- A marking satisfies a zone as it satisfies the zone's normal form.
 use Rattle.std.proofs.Common.{◌≡◌, ℕ, suc, ◌≤◌, List, length, sym, ap, ◌∙◌, subst, arith}
 use Rattle.std.proofs.lemmas.List.{length-map}
 use Rattle.bounds.specs.Kinds.{Kind, largest_size}

@@ -1,4 +1,4 @@
--- A marking and the same one on another grid. Assumes nothing.
+-- A marking and the same one on another grid.
 use Rattle.std.proofs.Common.{◌≡◌, ℕ, zero, suc, ◌+◌, ◌*◌, ◌<◌, ◌≤◌, List, [], ◌∷◌, map, length, ℤ, pos, ◌-ℤ◌, ◌*ℤ◌, sym, refl, ap, ◌∙◌, mul-zero, arith}
 use borrow.Author.Differences.{ints, up, down}
 use Rattle.std.proofs.lemmas.List.{length-map, get_or-map}

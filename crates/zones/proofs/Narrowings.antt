@@ -1,4 +1,4 @@
--- Which ages meet narrowed bounds, picked bounds, and bounds with tokens added. Assumes nothing.
+-- Which ages meet narrowed bounds, picked bounds, and bounds with tokens added.
 use Rattle.std.proofs.Common.{◌≡◌, ℕ, zero, suc, ◌+◌, ◌≤◌, true, false, ◌&&◌, ◌||◌, eqb, ◌⊎◌, List, [], ◌∷◌, length, ℤ, pos, ◌-ℤ◌, neg_ℤ, ap, ◌∙◌, inl, inr, arith}
 use borrow.Author.Differences.{ints}
 use Rattle.std.proofs.lemmas.Bool.{cond_both, eqb-true, eqb-false, and_parts, or_parts}

@@ -1,4 +1,4 @@
--- Every marking of a zone is one of the zone that vouches for it. Assumes nothing.
+-- Every marking of a zone is one of the zone that vouches for it.
 use Rattle.std.proofs.Common.{◌≡◌, ℕ, zero, suc, ◌<◌, ◌≤◌, List, ◌∷◌, ◌++◌, map, length, ◌-ℤ◌, sym, ap, ◌∙◌, subst, arith}
 use Rattle.std.proofs.lemmas.List.{append_assoc}
 use Rattle.bounds.specs.Kinds.{Kind}

@@ -1,4 +1,4 @@
--- What each step means for markings, over every kind. Assumes nothing.
+-- What each step means for markings, over every kind.
 use Rattle.bounds.specs.Kinds.{Kind}
 use Rattle.zones.specs.Safety.{ZoneLaws}
 use Rattle.zones.proofs.Forms.{form_satisfied, form_satisfies, none_satisfies}

@@ -1,7 +1,7 @@
 -- Zones, and the markings that satisfy them.
---     zone       tokens, numbered from 1, with a place each, and bounds on the differences of their ages
+--     zone       tokens, numbered from 1, with a place each, and bounds on the differences of their
+--                ages
 --     point      a token, or 0: a clock fixed at age 0
--- Assumes nothing.
 use Rattle.std.specs.Prelude.{◌≡◌, ℕ, zero, suc, List, ◌++◌, map, length, ℤ, pos, slice_index_or}
 use Rattle.bounds.specs.Kinds.{Kind}
 use Rattle.nets.specs.Markings.{Token, Marking, Permuted}
@@ -22,8 +22,9 @@ abbrev pub age_of : List Token → ℕ → ℤ
 age_of tokens zero = pos 0
 age_of tokens (suc j) = pos (slice_index_or tokens j no_token).age
 
--- Each token of the zone is paired with a token of the marking, no two with the same one: the chosen tokens, in the zone's
--- order, and the rest make up the marking. Places agree, and every bound allows its difference on grid k.
+-- Each token of the zone is paired with a token of the marking, no two with the same one: the
+-- chosen tokens, in the zone's order, and the rest make up the marking. Places agree, and every
+-- bound allows its difference on grid k.
 pub record Satisfies {B : Type 0} (kind : Kind B) (k : ℕ) (z : Zone B) (m : Marking) : Type 0 where
   pub chosen : List Token
   pub rest : Marking

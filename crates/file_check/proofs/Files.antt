@@ -1,4 +1,4 @@
--- What a whole file comes to, by its net. Assumes nothing.
+-- What a whole file comes to, by its net.
 use Rattle.std.proofs.Common.{◌≡◌, ℕ, true, List, take, Some, sym, ap, ◌∙◌, subst}
 use Rattle.bounds.specs.Kinds.{Kind}
 use Rattle.net_records.proofs.Clean.{sound_clean}
@@ -7,6 +7,7 @@ use Rattle.net_records.specs.NetRecords.{net_header_of, net_fault, sound}
 use Rattle.net_records.specs.Refusals.{NetFault}
 use Rattle.net_records.specs.declared.header.NetHeader.{NetHeader}
 use Rattle.net_records.specs.declared.header.NetKind.{NetKind}
+use Rattle.file_check.specs.Files.{Filed, beginning}
 use Rattle.file_rules.specs.Asks.{docket_asked}
 use Rattle.file_rules.specs.Reports.{Reports, ReportsBy, ReportsOf, ReportsUnder, Runs, blank_world}
 use Rattle.file_rules.specs.declared.fault.FileFault.{FileFault}
@@ -15,16 +16,9 @@ use Rattle.file_rules.specs.declared.line.Line.{Line}
 use Rattle.file_rules.specs.declared.line.Line.TheVariants.{Refused}
 use Rattle.docket_rules.specs.Worlds.{World}
 
--- a net that is refused
-pub net_refused : (bytes : List ℕ) (f : NetFault) (fault : FileFault) → net_fault bytes ≡ Some f → fault ≡ record { refusal = InNet f.refusal; at = f.at } → Reports bytes (Refused fault)
-net_refused bytes f fault has is = subst (λ o. ReportsBy bytes o (Refused fault)) (sym has) (ap Refused is)
-
 -- a docket that begins blank, with all records that follow the net's
-pub under_blank : {B : Type 0} (kind : Kind B) (held net : List ℕ) (w : World B) (next : ℕ) (rest : List ℕ) (line : Line) → net ≡ held → w ≡ blank_world kind → next ≡ first_later held → rest ≡ later_records held → Runs kind (net_of kind net) w (docket_asked kind next rest) line → ReportsUnder kind held line
-under_blank kind held net w next rest line same blank first later runs =
-    let netted = subst (λ b. Runs kind (net_of kind b) w (docket_asked kind next rest) line) same runs in
-    let blanked = subst (λ v. Runs kind (net_of kind held) v (docket_asked kind next rest) line) blank netted in
-    subst (λ (l : List ℕ). Runs kind (net_of kind held) (blank_world kind) (docket_asked kind (first_later held) l) line) later (subst (λ (n : ℕ). Runs kind (net_of kind held) (blank_world kind) (docket_asked kind n rest) line) first blanked)
+pub under_blank : {B : Type 0} (kind : Kind B) (held : List ℕ) (f : Filed B) (line : Line) → f ≡ beginning kind held → Runs kind f.net f.world (docket_asked kind f.unread.next f.unread.rest) line → ReportsUnder kind held line
+under_blank kind held f line begins runs = subst (λ (x : Filed _). Runs kind x.net x.world (docket_asked kind x.unread.next x.unread.rest) line) begins runs
 
 -- by the kind that the header says
 pub by_kind : (bytes held : List ℕ) (h : NetHeader) (by : NetKind) (line : Line) → held ≡ bytes → sound bytes ≡ true → h ≡ net_header_of (take 4 held) → h.kind ≡ by → ReportsOf by held line → Reports bytes line

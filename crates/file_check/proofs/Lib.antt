@@ -1,6 +1,5 @@
 pub mod Alike
 pub mod Calling
 pub mod Files
-pub mod Giving
-pub mod Running
 pub mod Tokens
+pub mod Walking

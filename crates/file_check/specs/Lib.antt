@@ -1,2 +1,2 @@
-pub mod Shown
-pub mod Steps
+pub mod Files
+pub mod Walks

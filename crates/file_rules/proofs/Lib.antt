@@ -1,10 +1,7 @@
 pub mod TakenAsks
 pub mod TakenCalls
 pub mod TakenAll
-pub mod Truths
-pub mod OneAnswer
-pub mod OnePage
-pub mod OneStep
 pub mod OneRun
 pub mod OneAsked
 pub mod One
+pub mod Truths

@@ -1,4 +1,4 @@
--- The rules give one line alone for a file. Assumes nothing.
+-- The rules give one line alone for a file.
 use Rattle.std.proofs.Common.{◌≡◌, ℕ, List, replicate, Some, None, Option, refl, sym, ◌∙◌}
 use Rattle.bounds.specs.Kinds.{Kind}
 use Rattle.bounds.specs.MarkedKind.{marked_kind}
@@ -14,26 +14,31 @@ use Rattle.file_rules.specs.Asks.{docket_asked}
 use Rattle.file_rules.specs.Reports.{Reports, ReportsBy, ReportsOf, ReportsUnder, blank_world, net_kind_of}
 use Rattle.file_rules.specs.declared.line.Line.{Line}
 use Rattle.docket_rules.specs.Logs.{no_log}
-use Rattle.docket_rules.proofs.Kept.{promised}
-use Rattle.docket_rules.proofs.Reaching.{reached_blank}
+use Rattle.docket_rules.specs.Reached.{CallLaws}
+use Rattle.docket_rules.specs.Worlds.{book_cells, book_places}
+use Rattle.nets.specs.Nets.{Limits, Net}
 use Rattle.file_rules.proofs.OneAsked.{docket_sharp}
 use Rattle.file_rules.proofs.OneRun.{one_run}
 
-module _ (bytes : List ℕ) (line other : Line) where
-  one_under : {B : Type 0} (kind : Kind B) → net_fault bytes ≡ None → ReportsUnder kind bytes line → ReportsUnder kind bytes other → line ≡ other
-  one_under kind clean h k =
+-- the calls keep their laws over every lawful net
+abbrev pub Lawful : {B : Type 0} → Kind B → Type 0
+Lawful {B} kind = (net : Net B) → Limits kind net → CallLaws kind net
+
+module _ (plain : Lawful plain_kind) (marked : Lawful marked_kind) (bytes : List ℕ) (line other : Line) where
+  one_under : {B : Type 0} (kind : Kind B) → Lawful kind → net_fault bytes ≡ None → ReportsUnder kind bytes line → ReportsUnder kind bytes other → line ≡ other
+  one_under kind lawful clean h k =
       let net = net_of kind bytes in
-      let promise = promised kind net (sound_limits kind bytes (clean_sound bytes clean)) in
+      let laws = lawful net (sound_limits kind bytes (clean_sound bytes clean)) in
       let asks = docket_asked kind (first_later bytes) (later_records bytes) in
-      one_run kind net asks (docket_sharp kind net promise (first_later bytes) (later_records bytes)) no_log (blank_world kind) (reached_blank kind net (replicate 5184 kind.no_limit) (replicate 512 0)) line other h k
+      one_run kind net laws asks (docket_sharp kind net laws (first_later bytes) (later_records bytes)) no_log (blank_world kind) (laws.start (replicate book_cells kind.no_limit) (replicate book_places 0)) line other h k
 
   one_of : (kind : NetKind) → net_fault bytes ≡ None → ReportsOf kind bytes line → ReportsOf kind bytes other → line ≡ other
-  one_of Plain clean h k = one_under plain_kind clean h k
-  one_of Marked clean h k = one_under marked_kind clean h k
+  one_of Plain clean h k = one_under plain_kind plain clean h k
+  one_of Marked clean h k = one_under marked_kind marked clean h k
 
   one_by : (fault : Option NetFault) → net_fault bytes ≡ fault → ReportsBy bytes fault line → ReportsBy bytes fault other → line ≡ other
   one_by None clean h k = one_of (net_kind_of bytes) clean h k
   one_by (Some fault) is h k = h ∙ sym k
 
-pub one : (bytes : List ℕ) (line other : Line) → Reports bytes line → Reports bytes other → line ≡ other
-one bytes line other h k = one_by bytes line other (net_fault bytes) refl h k
+  pub one : Reports bytes line → Reports bytes other → line ≡ other
+  one h k = one_by (net_fault bytes) refl h k

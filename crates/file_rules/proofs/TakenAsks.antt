@@ -1,13 +1,12 @@
--- What a line that is no refusal says of the asks before it: each record was whole, and each call was taken. Assumes nothing.
+-- What a line that is no refusal says of the asks before it: each record was whole, and each call was taken.
 use Rattle.std.proofs.Common.{◌≡◌, ℕ, zero, suc, ◌+◌, ◌*◌, ◌≤◌, Bool, true, false, cond, not, eqb, ltb, List, ◌∷◌, ◌++◌, length, take, drop, Ok, Err, refl, subst, arith, length-take, length-drop}
 use Rattle.std.proofs.lemmas.Bool.{eqb-true, ltb-false}
-use Rattle.std.proofs.lemmas.List.{append_assoc}
 use Rattle.bounds.specs.Kinds.{Kind}
 use Rattle.docket_records.specs.DocketRecords.{initial_token, token_of, token_spare}
 use Rattle.docket_records.specs.Records.{read_as}
 use Rattle.docket_records.specs.declared.fault.EntryRefusal.TheVariants.{WrongLength, NotZero}
 use Rattle.nets.specs.Nets.{Net}
-use Rattle.file_rules.specs.Asks.{Ask, Refuse, Make, refused_at, tokens_refused, with_record}
+use Rattle.file_rules.specs.Asks.{Ask, Refuse, Make, Words, read_ask, tokens_asked, with_record}
 use Rattle.file_rules.specs.Reports.{Goes, Runs}
 use Rattle.file_rules.specs.declared.fault.FileFault.{FileFault}
 use Rattle.file_rules.specs.declared.line.Line.{Line}
@@ -27,22 +26,20 @@ not_refused line fault passed e = subst Passed e passed
 
 module _ {B : Type 0} (kind : Kind B) (net : Net B) (line : Line) (passed : Passed line) where
   -- ---- records that are tested before any call
-  pub read_on : {X : Type 0} (w : World B) (later : List (Ask B)) (size at : ℕ) (spare : List ℕ → Bool) (said : List ℕ → X) (bytes : List ℕ) → Runs kind net w (refused_at at (read_as size spare said bytes) ++ later) line → (length bytes ≡ size) × Runs kind net w later line
-  read_on w later size at spare said bytes runs = by_test (eqb (length bytes) size) refl (spare bytes) runs
+  pub read_on : {X : Type 0} (w : World B) (later : List (Ask B)) (size at : ℕ) (spare : List ℕ → Bool) (said : List ℕ → X) (told : X → Words B → List ℕ) (bytes : List ℕ) → Runs kind net w (read_ask at told (read_as size spare said bytes) ∷ later) line → (length bytes ≡ size) × Runs kind net w later line
+  read_on w later size at spare said told bytes runs = by_test (eqb (length bytes) size) refl (spare bytes) runs
     where
-      by_test : (t : Bool) → eqb (length bytes) size ≡ t → (s : Bool) → Runs kind net w (refused_at at (cond (not t) (Err WrongLength) (cond s (Err NotZero) (Ok (said bytes)))) ++ later) line → (length bytes ≡ size) × Runs kind net w later line
+      by_test : (t : Bool) → eqb (length bytes) size ≡ t → (s : Bool) → Runs kind net w (read_ask at told (cond (not t) (Err WrongLength) (cond s (Err NotZero) (Ok (said bytes)))) ∷ later) line → (length bytes ≡ size) × Runs kind net w later line
       by_test true e true refused = absurd (not_refused line _ passed refused)
       by_test true e false runs = (eqb-true (length bytes) size e, runs)
       by_test false e s refused = absurd (not_refused line _ passed refused)
 
-  pub tokens_on : (w : World B) (later : List (Ask B)) (n at : ℕ) (rest : List ℕ) → Runs kind net w (tokens_refused n at rest ++ later) line → (3 * n ≤ length rest) × Runs kind net w later line
-  tokens_on w later zero at rest runs = (omega arith, runs)
-  tokens_on w later (suc n) at rest runs =
-      let others : List (Ask B) = tokens_refused n (at + 1) (drop 3 rest) in
-      let first : List (Ask B) = refused_at at (initial_token (take 3 rest)) in
-      let apart = subst (λ asks. Runs kind net w asks line) (append_assoc first others later) runs in
-      let here = read_on w (others ++ later) 3 at token_spare token_of (take 3 rest) apart in
-      let then = tokens_on w later n (at + 1) (drop 3 rest) here.1 in
+  pub tokens_on : (w : World B) (later : List (Ask B)) (n number at : ℕ) (rest : List ℕ) → Runs kind net w (tokens_asked n number at rest ++ later) line → (3 * n ≤ length rest) × Runs kind net w later line
+  tokens_on w later zero number at rest runs = (omega arith, runs)
+  tokens_on w later (suc n) number at rest runs =
+      let others : List (Ask B) = tokens_asked n (number + 1) (at + 1) (drop 3 rest) in
+      let here = read_on w (others ++ later) 3 at token_spare token_of (λ token words. words.token number token) (take 3 rest) runs in
+      let then = tokens_on w later n (number + 1) (at + 1) (drop 3 rest) here.1 in
       (omega (arith, here.0, length-take 3 rest, length-drop 3 rest, then.0), then.1)
 
   -- ---- calls

@@ -1,4 +1,4 @@
--- What a line says of the bytes is true, what it counts is right, and the item that it names is next. Assumes nothing.
+-- What a line says of the bytes is true, what it counts is right, and the item that it names is next.
 use Rattle.std.proofs.Common.{◌≡◌, ℕ, List, [], ◌∷◌, None, Some, Option, refl, sym, ap, ◌∙◌, subst}
 use Rattle.bounds.specs.Kinds.{Kind}
 use Rattle.bounds.specs.MarkedKind.{marked_kind}
@@ -13,10 +13,14 @@ use Rattle.file_rules.specs.Truth.{AllTaken, Counts, Items, ItemsOf, ItemsUnder,
 use Rattle.file_rules.specs.declared.fault.FileFault.{FileFault}
 use Rattle.file_rules.specs.declared.line.Line.{Line}
 use Rattle.file_rules.specs.declared.line.Line.TheVariants.{Sealed as SealedLine, Due as DueLine, Refused}
-use Rattle.docket_rules.specs.Promise.{first_due, proving_stage}
+use Rattle.docket_rules.specs.Logs.{proving_stage}
+use Rattle.docket_rules.specs.Promise.{first_due}
 use Rattle.docket_rules.specs.Worlds.{State, listed_count}
 use Rattle.docket_rules.specs.declared.stage.Stage.{Stage}
 use Rattle.docket_rules.specs.declared.stage.Stage.TheVariants.{Blank, Listing, Proving, Sealed}
+use Rattle.docket_rules.specs.Reached.{CallLaws}
+use Rattle.net_records.specs.NetBytes.{net_of}
+use Rattle.file_rules.proofs.One.{Lawful}
 use Rattle.file_rules.proofs.TakenAll.{lawful, whole}
 use Rattle.file_rules.proofs.TakenAsks.{not_refused}
 
@@ -73,34 +77,37 @@ none_left : (items : List Item) → first_due items ≡ None → items ≡ []
 none_left [] e = refl
 none_left (d ∷ later) e = absurd (subst IsNone (sym e) tt)
 
-module _ (bytes : List ℕ) where
+module _ (plain : Lawful plain_kind) (marked : Lawful marked_kind) (bytes : List ℕ) where
   -- ---- under one kind
-  module _ {B : Type 0} (kind : Kind B) (clean : net_fault bytes ≡ None) where
+  module _ {B : Type 0} (kind : Kind B) (lawful_calls : Lawful kind) (clean : net_fault bytes ≡ None) where
+    laws : CallLaws kind (net_of kind bytes)
+    laws = lawful_calls (net_of kind bytes) (lawful kind bytes clean)
+
     safe_under : (zones vouchers : ℕ) → ReportsUnder kind bytes (SealedLine zones vouchers) → SafeBytes kind bytes
     safe_under zones vouchers runs =
-        let end = whole kind bytes clean (SealedLine zones vouchers) tt runs in
+        let end = whole kind bytes clean laws (SealedLine zones vouchers) tt runs in
         let sealed = sealed_ends end.world.state end.world.state.stage zones vouchers end.ends in
         record { lawful = lawful kind bytes clean; safe = end.safe sealed.0 }
 
     counts_under : (line : Line) → ReportsUnder kind bytes line → Counts bytes line
     counts_under (SealedLine zones vouchers) runs =
-        let end = whole kind bytes clean (SealedLine zones vouchers) tt runs in
+        let end = whole kind bytes clean laws (SealedLine zones vouchers) tt runs in
         let sealed = sealed_ends end.world.state end.world.state.stage zones vouchers end.ends in
         (sealed.1 ∙ end.zones, subst (AllTaken bytes) (sym sealed.2) end.all)
     counts_under (DueLine item vouchers) runs =
-        let end = whole kind bytes clean (DueLine item vouchers) tt runs in
+        let end = whole kind bytes clean laws (DueLine item vouchers) tt runs in
         subst (AllTaken bytes) (sym (due_ends end.world.state end.world.state.stage item vouchers end.ends).1) end.all
     counts_under (Refused fault) runs = tt
 
     items_under : (line : Line) → ReportsUnder kind bytes line → ItemsUnder kind bytes line
     items_under (SealedLine zones vouchers) runs =
-        let end = whole kind bytes clean (SealedLine zones vouchers) tt runs in
+        let end = whole kind bytes clean laws (SealedLine zones vouchers) tt runs in
         let s = end.world.state in
         let sealed = sealed_ends s s.stage zones vouchers end.ends in
         let first = first_named (left_of kind bytes s.taken) ∙ ap item_named (sym end.stage ∙ sealed.0) in
         subst (λ n. left_of kind bytes n ≡ []) (sym sealed.2) (none_left (left_of kind bytes s.taken) first)
     items_under (DueLine item vouchers) runs =
-        let end = whole kind bytes clean (DueLine item vouchers) tt runs in
+        let end = whole kind bytes clean laws (DueLine item vouchers) tt runs in
         let s = end.world.state in
         let due = due_ends s s.stage item vouchers end.ends in
         let first = first_named (left_of kind bytes s.taken) ∙ ap item_named (sym end.stage ∙ due.0) in
@@ -109,16 +116,16 @@ module _ (bytes : List ℕ) where
 
   -- ---- by the kind of the header
   safe_of : (by : NetKind) → net_fault bytes ≡ None → (zones vouchers : ℕ) → ReportsOf by bytes (SealedLine zones vouchers) → SafeOf by bytes
-  safe_of Plain clean zones vouchers runs = safe_under plain_kind clean zones vouchers runs
-  safe_of Marked clean zones vouchers runs = safe_under marked_kind clean zones vouchers runs
+  safe_of Plain clean zones vouchers runs = safe_under plain_kind plain clean zones vouchers runs
+  safe_of Marked clean zones vouchers runs = safe_under marked_kind marked clean zones vouchers runs
 
   counts_of : (by : NetKind) → net_fault bytes ≡ None → (line : Line) → ReportsOf by bytes line → Counts bytes line
-  counts_of Plain clean line runs = counts_under plain_kind clean line runs
-  counts_of Marked clean line runs = counts_under marked_kind clean line runs
+  counts_of Plain clean line runs = counts_under plain_kind plain clean line runs
+  counts_of Marked clean line runs = counts_under marked_kind marked clean line runs
 
   items_of : (by : NetKind) → net_fault bytes ≡ None → (line : Line) → ReportsOf by bytes line → ItemsOf by bytes line
-  items_of Plain clean line runs = items_under plain_kind clean line runs
-  items_of Marked clean line runs = items_under marked_kind clean line runs
+  items_of Plain clean line runs = items_under plain_kind plain clean line runs
+  items_of Marked clean line runs = items_under marked_kind marked clean line runs
 
   refused_items : (by : NetKind) (fault : FileFault) → ItemsOf by bytes (Refused fault)
   refused_items Plain fault = tt

@@ -1,4 +1,4 @@
--- The number and the text of each refusal of a file. Assumes nothing.
+-- The number and the text of each refusal of a file.
 use Rattle.std.specs.Prelude.{ℕ, List, ◌++◌, codes, decimal}
 use Rattle.net_records.specs.Refusals.{refusal_number, refusal_text}
 use Rattle.docket_refusals.specs.CallRefusals.{call_refusal_number, call_refusal_text}

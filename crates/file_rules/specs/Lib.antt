@@ -2,4 +2,5 @@ pub mod FileRefusals
 pub mod LineTexts
 pub mod Asks
 pub mod Reports
+pub mod Telling
 pub mod Truth

@@ -1,4 +1,4 @@
--- How a line is written: a word, and decimal numbers with one space between. Assumes nothing.
+-- How a line is written: a word, and decimal numbers with one space between.
 use Rattle.std.specs.Prelude.{ℕ, List, ◌++◌, codes, decimal}
 use Rattle.docket_dues.specs.declared.item.Item.{Item}
 use Rattle.file_rules.specs.FileRefusals.{file_number}

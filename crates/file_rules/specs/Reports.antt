@@ -1,7 +1,6 @@
 -- The line that a file comes to.
 --     world    the docket and the book, as they stand between two calls
 -- The calls that a file asks for are made one after the other, from a blank docket on, until one is refused or none is left.
--- Assumes nothing.
 use Rattle.std.specs.Prelude.{◌≡◌, ℕ, List, [], ◌∷◌, take, replicate, Ok, Err, Some, None, Option}
 use Rattle.bounds.specs.Kinds.{Kind}
 use Rattle.bounds.specs.MarkedKind.{marked_kind}
@@ -13,13 +12,13 @@ use Rattle.net_records.specs.Refusals.{NetFault}
 use Rattle.net_records.specs.declared.header.NetKind.{NetKind}
 use Rattle.net_records.specs.declared.header.NetKind.TheVariants.{Plain, Marked}
 use Rattle.docket_refusals.specs.declared.refusal.CallRefusal.TheVariants.{Entry}
-use Rattle.file_rules.specs.Asks.{Ask, Refuse, Make, docket_asked}
+use Rattle.file_rules.specs.Asks.{Ask, Read, Refuse, Make, docket_asked}
 use Rattle.file_rules.specs.declared.fault.FileRefusal.TheVariants.{Net as InNet, Call as InCall}
 use Rattle.file_rules.specs.declared.line.Line.{Line}
 use Rattle.file_rules.specs.declared.line.Line.TheVariants.{Sealed as SealedLine, Due as DueLine, Refused}
 use Rattle.docket_rules.specs.Calls.{Step}
 use Rattle.docket_rules.specs.Tables.{Answer}
-use Rattle.docket_rules.specs.Worlds.{State, World, blank, listed_count}
+use Rattle.docket_rules.specs.Worlds.{State, World, blank, book_cells, book_places, listed_count, with_book}
 use Rattle.docket_rules.specs.declared.stage.Stage.{Stage}
 use Rattle.docket_rules.specs.declared.stage.Stage.TheVariants.{Blank, Listing, Proving, Sealed}
 
@@ -39,13 +38,14 @@ Goes at (Err r) line later = line ≡ Refused (record { refusal = InCall r; at =
 
 abbrev pub Runs : {B : Type 0} → Kind B → Net B → World B → List (Ask B) → Line → Type 0
 Runs kind net w [] line = Ends w.state w.state.stage line
+Runs kind net w (Read said ∷ later) line = Runs kind net w later line
 Runs kind net w (Refuse at refusal ∷ later) line = line ≡ Refused (record { refusal = InCall (Entry refusal); at = at })
 Runs kind net w (Make at call ∷ later) line = (answer : Answer) × (v : World _) × Step kind net w (call answer) v × Goes at answer line (Runs kind net v later line)
 
 -- ---- the whole file
 -- a blank docket, over a book of 64 pages
 abbrev pub blank_world : {B : Type 0} → Kind B → World B
-blank_world kind = record { state = blank; cells = replicate 5184 kind.no_limit; places = replicate 512 0 }
+blank_world kind = with_book blank (replicate book_cells kind.no_limit) (replicate book_places 0)
 
 abbrev pub ReportsUnder : {B : Type 0} → Kind B → List ℕ → Line → Type 0
 ReportsUnder kind bytes line = Runs kind (net_of kind bytes) (blank_world kind) (docket_asked kind (first_later bytes) (later_records bytes)) line

@@ -1,32 +1,25 @@
-use Rattle.std.proofs.Common.{[], ap, refl}
+use Rattle.std.proofs.Common.{[]}
 use Rattle.std.proofs.lemmas.Result.{err_from_is_err_and}
-use Rattle.docket.specs.Dockets.{world_of}
-use Rattle.file_check.proofs.Running.{closing_on, made_out, through_on, through_under}
+use Rattle.file_check.proofs.Walking.{close_on, going_self, passes_after, passes_out}
+use Rattle.file_rules.specs.Asks.{proving_asked, voucher_count, vouchers_asked}
 use Rattle.file_check.proofs.file.DocketFile.proving.Goals as goal
-use Rattle.net_records.specs.NetBytes.{net_of}
-use Rattle.file_rules.specs.Asks.{Make, proving_asked, voucher_count, vouchers_asked}
-use Rattle.docket_rules.specs.Calls.{Close}
 
-pub returns-in_err-close-clause-through : goal.returns-in_err-close-clause-through
-returns-in_err-close-clause-through g c =
+pub returns-in_err-told_close-clause-told : goal.returns-in_err-told_close-clause-told
+returns-in_err-told_close-clause-told g c =
+    let words = g.W.Watcher.words in
     let kind = g.B.Bound.kind in
-    let first = c.args.self.now in
-    let after = c.close.new.self in
+    let after = c.told_close.new.self in
     let p = err_from_is_err_and c.from_residual.result c.from_residual.ensures.1 in
-    rw (p.1, p.2) (made_out kind (net_of kind first.net.bytes.now) (world_of first.docket first.cells.now first.places.now) (world_of after.docket after.cells.now after.places.now) (Make first.reader.next Close) _ c.in_err-close.field-0.0 (c.in_err-close.ensures.made.made c.requires))
+    let file = c.args.self.now in
+    let asks = proving_asked kind file.unread.next file.unread.rest in
+    let said = g.W.Watcher.said c.args.watcher.now in
+    passes_out words kind (Unit {0}) file file after after asks asks [] [] said said (g.W.Watcher.said c.told_close.new.watcher) c.in_err-told_close.field-0.0 p.0 c.from_residual.result
+    (going_self words kind file asks said) (c.in_err-told_close.ensures.told (vouchers_asked kind (voucher_count kind file.unread.rest) file.unread.next file.unread.rest)) p.1 p.2
 
-pub returns-clause-through : goal.returns-clause-through
-returns-clause-through g c =
+pub returns-clause-told : goal.returns-clause-told
+returns-clause-told g c =
+    let words = g.W.Watcher.words in
     let kind = g.B.Bound.kind in
-    let first = c.args.self.now in
-    let closed = c.close.new.self in
-    let last = c.vouchers.new.self in
-    let net = net_of kind first.net.bytes.now in
-    let start = world_of first.docket first.cells.now first.places.now in
-    let here = world_of closed.docket closed.cells.now closed.places.now in
-    let end = world_of last.docket last.cells.now last.places.now in
-    let vouchers = vouchers_asked kind (voucher_count kind closed.reader.rest.now) closed.reader.next closed.reader.rest.now in
-    let step = c.in_ok-close.ensures in
-    let on = closing_on kind net start here first.reader.next closed.reader.next first.reader.rest.now closed.reader.rest.now (step.made.made c.requires) step.rest step.next in
-    through_on kind net start here end (proving_asked kind first.reader.next first.reader.rest.now) vouchers [] c.vouchers.result on
-    (through_under kind net _ here here end vouchers [] c.vouchers.result (ap (λ n. net_of kind n.bytes.now) step.net) refl c.vouchers.ensures.through)
+    let closed = c.in_ok-told_close.ensures in
+    passes_after words kind _ _ c.told_vouchers.new.self _ _ [] _ _ (g.W.Watcher.said c.told_vouchers.new.watcher) c.told_vouchers.result
+    (close_on words kind _ _ _ _ closed.unread closed.told) c.told_vouchers.ensures.told

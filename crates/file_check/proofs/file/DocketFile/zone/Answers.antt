@@ -1,14 +1,21 @@
-use Rattle.docket.specs.Dockets.{world_of}
-use Rattle.file_check.proofs.Calling.{called}
+use Rattle.std.proofs.Common.{ℕ, List, refl, sym, subst}
+use Rattle.docket_rules.specs.Calls.{Post, Posts}
+use Rattle.docket_rules.specs.Worlds.{with_book}
+use Rattle.file_check.proofs.Calling.{called_with, clear_left}
 use Rattle.file_check.proofs.file.DocketFile.zone.Goals as goal
+use Rattle.file_rules.specs.Asks.{scratch_page}
 use Rattle.net_records.specs.NetBytes.{net_of}
-use Rattle.docket_rules.specs.Calls.{Post}
+
+pub invariant_of-self-2 : goal.invariant_of-self-2
+invariant_of-self-2 g c = clear_left g.B.Bound.kind c.post-answer.result _ _ c.post-answer.ensures.scratch c.self.invariant
 
 pub returns-clause-made : goal.returns-clause-made
 returns-clause-made g c =
     let kind = g.B.Bound.kind in
-    let file = c.args.self.now in
-    let part = c.in_ok-bytes.ensures in
-    let after = c.post-answer.new in
-    let made = c.post-answer.ensures in
-    called kind (net_of kind file.net.bytes.now) (world_of file.docket file.cells.now file.places.now) (world_of after.self after.cells after.places) 192 _ file.reader.next file.reader.rest.now _ file.scratch.now after.scratch Post c.post-answer.result c.filed.result part.1 part.2 part.4 c.filed.ensures made.scratch (after.scratch, made)
+    let taken = c.in_ok-bytes.ensures in
+    let call = λ (bytes : List ℕ). Post bytes (scratch_page kind) in
+    let posts = c.post-answer in
+    let file = c.self.inside in
+    let step = subst (λ lent. Posts kind (net_of kind file.net.bytes.now) c.in_ok-bytes.field-0.bytes.now lent posts.new.scratch (with_book file.docket file.cells.now file.places.now) (with_book posts.new.self posts.new.cells posts.new.places) posts.result) c.self.invariant posts.ensures in
+    rw (sym c.self.view_is)
+    (called_with kind _ _ posts.result refl 192 c.in_ok-bytes.field-0.at c.in_ok-bytes.field-0.bytes.now call c.filed.result taken.1 taken.2 taken.4 c.filed.ensures (posts.new.scratch, step))

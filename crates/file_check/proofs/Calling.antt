@@ -5,11 +5,9 @@ use Rattle.std.proofs.lemmas.Bool.{cond-false, le-ltb}
 use Rattle.bounds.specs.Kinds.{Kind}
 use Rattle.docket_rules.specs.Calls.{Call, Left, Step, is_early}
 use Rattle.docket_rules.specs.Tables.{Answer}
-use Rattle.docket_rules.specs.Worlds.{World}
 use Rattle.file_check.specs.Files.{AskMade, Called, Filed, filed}
 use Rattle.file_rules.specs.Asks.{Make, scratch_page, with_record}
 use Rattle.file_rules.specs.declared.fault.FileFault.{FileFault}
-use Rattle.nets.specs.Nets.{Net}
 
 module _ {B : Type 0} (kind : Kind B) where
   clear_by : (early : Bool) (lent left : List B) → left ≡ cond early lent (scratch_page kind) → lent ≡ scratch_page kind → left ≡ scratch_page kind

@@ -1,20 +1,14 @@
 -- What a whole file comes to, by its net.
-use Rattle.std.proofs.Common.{◌≡◌, ℕ, true, List, take, Some, sym, ap, ◌∙◌, subst}
+use Rattle.std.proofs.Common.{◌≡◌, ℕ, true, List, take, sym, ap, ◌∙◌, subst}
 use Rattle.bounds.specs.Kinds.{Kind}
 use Rattle.net_records.proofs.Clean.{sound_clean}
-use Rattle.net_records.specs.NetBytes.{first_later, later_records, net_of}
-use Rattle.net_records.specs.NetRecords.{net_header_of, net_fault, sound}
-use Rattle.net_records.specs.Refusals.{NetFault}
+use Rattle.net_records.specs.NetRecords.{net_header_of, sound}
 use Rattle.net_records.specs.declared.header.NetHeader.{NetHeader}
 use Rattle.net_records.specs.declared.header.NetKind.{NetKind}
 use Rattle.file_check.specs.Files.{Filed, beginning}
 use Rattle.file_rules.specs.Asks.{docket_asked}
-use Rattle.file_rules.specs.Reports.{Reports, ReportsBy, ReportsOf, ReportsUnder, Runs, blank_world}
-use Rattle.file_rules.specs.declared.fault.FileFault.{FileFault}
-use Rattle.file_rules.specs.declared.fault.FileRefusal.TheVariants.{Net as InNet}
+use Rattle.file_rules.specs.Reports.{Reports, ReportsBy, ReportsOf, ReportsUnder, Runs}
 use Rattle.file_rules.specs.declared.line.Line.{Line}
-use Rattle.file_rules.specs.declared.line.Line.TheVariants.{Refused}
-use Rattle.docket_rules.specs.Worlds.{World}
 
 -- a docket that begins blank, with all records that follow the net's
 pub under_blank : {B : Type 0} (kind : Kind B) (held : List ℕ) (f : Filed B) (line : Line) → f ≡ beginning kind held → Runs kind f.net f.world (docket_asked kind f.unread.next f.unread.rest) line → ReportsUnder kind held line

@@ -1,8 +1,8 @@
 -- A walk through several asks, one after the other.
 --     start, first    the file where the walk began, and what the watcher had said then
 --     f, said         the file and the watcher as they are now
-use Rattle.std.specs.Prelude.{true, false, cond, nat_lt}
-use Rattle.std.proofs.Common.{◌≡◌, ℕ, suc, ◌+◌, ◌-◌, ◌*◌, ◌/◌, ◌<◌, ◌≤◌, Bool, List, [], ◌∷◌, ◌++◌, length, take, drop, Ok, Err, Result, refl, sym, ap, ◌∙◌, subst, arith, length-drop}
+use Rattle.std.specs.Prelude.{nat_lt}
+use Rattle.std.proofs.Common.{◌≡◌, ℕ, suc, ◌+◌, ◌-◌, ◌<◌, ◌≤◌, List, [], ◌∷◌, ◌++◌, length, take, drop, Ok, Err, Result, refl, sym, ap, ◌∙◌, subst, arith, length-drop}
 use Rattle.std.proofs.lemmas.Bool.{cond-false, le-ltb}
 use Rattle.bounds.specs.Kinds.{Kind}
 use Rattle.docket_records.specs.DocketRecords.{docket_header_of}
@@ -162,7 +162,7 @@ module _ {B : Type 0} (words : Words B) (kind : Kind B) where
 
   -- ---- the target, behind the initial tokens
   asks_target : (n : ℕ) (rest : List ℕ) (lists : InitialLists) (u : Unread) → AsGiven n rest lists → opening_ask kind lists u ≡ target_ask kind (initial_tokens_of n rest) u.next u.rest
-  asks_target n rest lists u given = λ i. with_record 192 u.next u.rest (λ target. Open (given.places i) (given.ages i) target (scratch_page kind))
+  asks_target n rest lists u gave = λ i. with_record 192 u.next u.rest (λ target. Open (record { places = gave.places i; ages = gave.ages i }) target (scratch_page kind))
 
   pub marking_on : (start f : Filed B) (first said : List ℕ) (h : DocketHeader) (lists : InitialLists) → AsGiven h.initial start.unread.rest lists → f.unread ≡ read_tokens h.initial start.unread → ((later : List (Ask B)) (last : List ℕ) (line : Line) → Tells words kind f later said last line → Tells words kind start (tokens_asked h.initial 1 start.unread.next start.unread.rest ++ later) first last line) → Going start (marking_asked kind h start.unread.next start.unread.rest) first f (opening_ask kind lists f.unread ∷ zones_asked kind h.zones (f.unread.next + 1) (drop 192 f.unread.rest)) said
   marking_on start f first said h lists given moved step =

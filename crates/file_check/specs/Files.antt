@@ -1,17 +1,18 @@
 -- A file as it stands between two steps, and what one step comes to.
-use Rattle.std.specs.Prelude.{◌≡◌, ℕ, ◌+◌, ◌*◌, ◌<◌, ◌≤◌, List, length, take, drop, Ok, Err, Result, Some, None, Option}
+use Rattle.std.specs.Prelude.{◌≡◌, ℕ, ◌<◌, ◌≤◌, List, length, take, Ok, Err, Result, Some, None, Option}
 use Rattle.bounds.specs.Kinds.{Kind}
+use Rattle.docket_records.specs.Records.{zone_size}
 use Rattle.docket_records.specs.declared.fault.EntryRefusal.{EntryRefusal}
 use Rattle.docket_records.specs.declared.fault.EntryRefusal.TheVariants.{WrongLength}
 use Rattle.docket_refusals.specs.declared.refusal.CallRefusal.{CallRefusal}
 use Rattle.docket_refusals.specs.declared.refusal.CallRefusal.TheVariants.{Entry}
 use Rattle.docket_rules.specs.Calls.{Open, Step}
-use Rattle.docket_rules.specs.Tables.{Answer}
+use Rattle.docket_rules.specs.Tables.{Answer, given}
 use Rattle.docket_rules.specs.Worlds.{State, World}
 use Rattle.docket_rules.specs.declared.stage.Stage.{Stage}
 use Rattle.docket_rules.specs.declared.stage.Stage.TheVariants.{Blank, Listing, Proving, Sealed}
 use Rattle.file_check.specs.declared.initial.InitialLists.{InitialLists}
-use Rattle.file_rules.specs.Asks.{Ask, Read, Refuse, Make, ages_given, initial_tokens_of, places_given, scratch_page, with_record}
+use Rattle.file_rules.specs.Asks.{Ask, Read, Refuse, Make, scratch_page, with_record}
 use Rattle.file_rules.specs.Reports.{Ends, blank_world}
 use Rattle.file_rules.specs.declared.fault.FileFault.{FileFault}
 use Rattle.file_rules.specs.declared.fault.FileRefusal.TheVariants.{Call as InCall}
@@ -84,8 +85,8 @@ pub record Called {B : Type 0} (kind : Kind B) (ask : Ask B) (before : Filed B) 
 -- the open with these lists and the next record
 abbrev pub opening_ask : {B : Type 0} → Kind B → InitialLists → Unread → Ask B
 opening_ask kind lists unread =
-    with_record 192 unread.next unread.rest
-      (λ target. Open lists.places.items lists.ages.items target (scratch_page kind))
+    with_record zone_size unread.next unread.rest
+    (λ target. Open (given lists.places.items lists.ages.items) target (scratch_page kind))
 
 -- ---- the line of a file that ends here; none until the list is closed
 abbrev pub IsLine : State → Option Line → Type 0

@@ -2,6 +2,7 @@
 --     said    what the watcher has said
 use Rattle.std.specs.Prelude.{◌≡◌, ℕ, ◌+◌, ◌*◌, List, drop, Ok, Err, Result}
 use Rattle.bounds.specs.Kinds.{Kind}
+use Rattle.docket_records.specs.Records.{token_size}
 use Rattle.file_check.specs.Files.{Filed}
 use Rattle.file_check.specs.declared.initial.InitialLists.{InitialLists}
 use Rattle.file_check.specs.declared.watcher.Ended.{Ended}
@@ -40,4 +41,4 @@ pub record AsGiven (n : ℕ) (rest : List ℕ) (lists : InitialLists) : Type 0 w
 
 -- what is left behind n tokens
 abbrev pub read_tokens : (n : ℕ) → Unread → Unread
-read_tokens n unread = record { rest = drop (3 * n) unread.rest; next = unread.next + n }
+read_tokens n unread = record { rest = drop (token_size * n) unread.rest; next = unread.next + n }

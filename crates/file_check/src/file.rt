@@ -2,9 +2,10 @@
 // the docket's calls are lent. Its methods read a record each, make the call that it asks for, or
 // say how the docket stands.
 ghost use Rattle.docket_records.specs.DocketRecords.{docket_header, initial_token};
+ghost use Rattle.docket_records.specs.Records.{header_size, token_size, voucher_size, zone_size};
 ghost use Rattle.docket_rules.specs.Calls.{Close, Discharge, next_due_of};
 ghost use Rattle.docket_rules.specs.Tables.{partners_used};
-ghost use Rattle.docket_rules.specs.Worlds.{listed_count, page_cells, page_places};
+ghost use Rattle.docket_rules.specs.Worlds.{cells_at, listed_count, places_at};
 ghost use Rattle.file_check.specs.Files.{Called, IsLine, PartTaken, Reads, Waits, beginning, filed, opening_ask};
 ghost use Rattle.file_rules.specs.Asks.{Make, scratch_page, zone_ask};
 ghost use Rattle.net_records.specs.Parts.{Moved};
@@ -18,7 +19,7 @@ use docket_records::docket_header::DocketHeader;
 use docket_records::record::Record;
 use docket_records::token::InitialToken;
 use docket_records::voucher::Voucher;
-use docket_records::zone_test::ZONE_SIZE;
+use docket_records::zone::ZONE_SIZE;
 use docket_refusals::CallRefusal;
 use file_rules::{FileFault, FileRefusal, Line};
 use net_records::packed::PackedNet;
@@ -46,15 +47,14 @@ impl<'a, 'm, B: Bound> Model for DocketFile<'a, 'm, B> {
     ghost use Rattle.file_rules.specs.Asks.{scratch_page};
     ghost use Rattle.net_records.specs.NetBytes.{net_of};
     ghost use Rattle.std.specs.Prelude.{◌≡◌};
+
     ghost Value = { Filed B };
 
-    ghost view = {
-        λ f. record {
-        net = net_of B.Bound.kind f.net.bytes.now;
-        unread = f.reader;
-        world = with_book f.docket f.cells.now f.places.now
-        }
-    };
+    ghost view = { λ f. record {
+      net = net_of B.Bound.kind f.net.bytes.now;
+      unread = f.reader;
+      world = with_book f.docket f.cells.now f.places.now;
+    } };
 
     ghost invariant = { λ f. f.scratch.now ≡ scratch_page B.Bound.kind };
 }
@@ -107,9 +107,9 @@ impl<'a, 'm, B: Bound> DocketFile<'a, 'm, B> {
     }
 
     /// The page with this number: 0 is the target's, and the listed zones follow.
-    pub fn page(&self, number: u8) -> Page<'_, '_, B>
-        ensures cells { result.cells.now ≡ page_cells self.now.world number }
-        ensures places { result.places.now ≡ page_places self.now.world number }
+    pub fn page(&self, number: u8) -> Page<'_, B>
+        ensures cells { result.cells.now ≡ cells_at self.now.world number }
+        ensures places { result.places.now ≡ places_at self.now.world number }
         ensures few { length result.places.now < 256 }
     {
         let book = Book {
@@ -158,14 +158,14 @@ impl<'a, 'm, B: Bound> DocketFile<'a, 'm, B> {
 
     /// The docket header. No call is made.
     pub fn header(&mut self) -> Result<DocketHeader, FileFault>
-        ensures { Reads 4 docket_header self.old result self.new }
+        ensures { Reads header_size docket_header self.old result self.new }
     {
         Ok(DocketHeader::next(&mut self.reader)?)
     }
 
     /// An initial token. No call is made.
     pub fn token(&mut self) -> Result<InitialToken, FileFault>
-        ensures { Reads 3 initial_token self.old result self.new }
+        ensures { Reads token_size initial_token self.old result self.new }
     {
         Ok(InitialToken::next(&mut self.reader)?)
     }
@@ -173,7 +173,7 @@ impl<'a, 'm, B: Bound> DocketFile<'a, 'm, B> {
     /// Opens the docket with the target's record.
     pub fn target(&mut self, initial: &InitialLists) -> Result<(), FileFault>
         ensures made { Called B.Bound.kind (opening_ask B.Bound.kind initial.now self.old.unread) self.old result self.new }
-        ensures moved { Moved 192 self.old.unread result self.new.unread }
+        ensures moved { Moved zone_size self.old.unread result self.new.unread }
     {
         let Part { bytes, at } = self.reader.part(ZONE_SIZE)?;
         let cells = &mut *self.cells;
@@ -193,11 +193,9 @@ impl<'a, 'm, B: Bound> DocketFile<'a, 'm, B> {
 
     /// Posts the next zone.
     pub fn zone(&mut self) -> Result<(), FileFault>
-        ensures made {
-            Called B.Bound.kind (zone_ask B.Bound.kind self.old.unread.next self.old.unread.rest)
-            self.old result self.new
-        }
-        ensures moved { Moved 192 self.old.unread result self.new.unread }
+        ensures made { Called B.Bound.kind (zone_ask B.Bound.kind self.old.unread.next self.old.unread.rest)
+            self.old result self.new }
+        ensures moved { Moved zone_size self.old.unread result self.new.unread }
     {
         let Part { bytes, at } = self.reader.part(ZONE_SIZE)?;
         let cells = &mut *self.cells;
@@ -219,7 +217,7 @@ impl<'a, 'm, B: Bound> DocketFile<'a, 'm, B> {
 
     /// The record of the next voucher. No call is made.
     pub fn voucher_record(&mut self) -> Result<Part<'a>, FileFault>
-        ensures taken { PartTaken 6 self.old.unread result self.new.unread }
+        ensures taken { PartTaken voucher_size self.old.unread result self.new.unread }
         ensures waits { Waits self.old self.new }
     {
         Ok(self.reader.part(Voucher::SIZE)?)
@@ -227,10 +225,8 @@ impl<'a, 'm, B: Bound> DocketFile<'a, 'm, B> {
 
     /// Discharges the voucher of this record.
     pub fn discharge(&mut self, part: Part<'_>) -> Result<(), FileFault>
-        ensures made {
-            Called B.Bound.kind (Make part.entry.at (Discharge part.entry.bytes.now (scratch_page B.Bound.kind)))
-            self.old result self.new
-        }
+        ensures made { Called B.Bound.kind (Make part.entry.at (Discharge part.entry.bytes.now (scratch_page B.Bound.kind)))
+            self.old result self.new }
         ensures unread { self.new.unread ≡ self.old.unread }
     {
         let Part { bytes, at } = part;

@@ -1,5 +1,6 @@
 // The walk over a file, record by record, with a watcher who hears of each.
 ghost use Rattle.docket_records.specs.DocketRecords.{docket_header_of, token_of};
+ghost use Rattle.docket_records.specs.Records.{header_size, token_size, voucher_size, zone_size};
 ghost use Rattle.docket_rules.specs.Calls.{Close};
 ghost use Rattle.file_check.specs.Files.{IsClosed, opening_ask};
 ghost use Rattle.file_check.specs.Walks.{AsGiven, Comes, Passes, Tells, read_tokens};
@@ -18,57 +19,62 @@ use file_rules::Line;
 
 impl<'a, 'm, B: Bound> DocketFile<'a, 'm, B> {
     // ---- one record, and what the watcher hears of it
-    fn told_header<W: Watcher<B>>(&mut self, watcher: &mut W) -> Result<DocketHeader, Ended<W::Stop>>
-        ensures told {
-            (later : List (Ask B)) →
+    fn told_header<W: Watcher<B>>(
+        &mut self,
+        watcher: &mut W,
+    ) -> Result<DocketHeader, Ended<W::Stop>>
+        ensures told { (later : List (Ask B)) →
             Passes W.Watcher.words B.Bound.kind self.old
             (header_ask self.old.unread.next self.old.unread.rest ∷ later) (W.Watcher.said watcher.old)
-            self.new later (W.Watcher.said watcher.new) result
-        }
-        ensures moved { Moved 4 self.old.unread result self.new.unread }
-        ensures header { IfOk result (λ h. h ≡ docket_header_of (take 4 self.old.unread.rest)) }
+            self.new later (W.Watcher.said watcher.new) result }
+        ensures moved { Moved header_size self.old.unread result self.new.unread }
+        ensures header { IfOk result (λ h. h ≡ docket_header_of (take header_size self.old.unread.rest)) }
     {
         let header = self.header()?;
         watcher.header(header).map_err(|stop| Ended::Stopped(stop))?;
         Ok(header)
     }
 
-    fn told_token<W: Watcher<B>>(&mut self, watcher: &mut W, number: u8) -> Result<InitialToken, Ended<W::Stop>>
-        ensures told {
-            (later : List (Ask B)) →
+    fn told_token<W: Watcher<B>>(
+        &mut self,
+        watcher: &mut W,
+        number: u8,
+    ) -> Result<InitialToken, Ended<W::Stop>>
+        ensures told { (later : List (Ask B)) →
             Passes W.Watcher.words B.Bound.kind self.old
             (token_ask number self.old.unread.next self.old.unread.rest ∷ later) (W.Watcher.said watcher.old)
-            self.new later (W.Watcher.said watcher.new) result
-        }
-        ensures moved { Moved 3 self.old.unread result self.new.unread }
-        ensures token { IfOk result (λ t. t ≡ token_of (take 3 self.old.unread.rest)) }
+            self.new later (W.Watcher.said watcher.new) result }
+        ensures moved { Moved token_size self.old.unread result self.new.unread }
+        ensures token { IfOk result (λ t. t ≡ token_of (take token_size self.old.unread.rest)) }
     {
         let token = self.token()?;
-        watcher.token(number, token).map_err(|stop| Ended::Stopped(stop))?;
+        watcher
+            .token(number, token)
+            .map_err(|stop| Ended::Stopped(stop))?;
         Ok(token)
     }
 
-    fn told_target<W: Watcher<B>>(&mut self, watcher: &mut W, initial: &InitialLists) -> Result<(), Ended<W::Stop>>
-        ensures told {
-            (later : List (Ask B)) →
+    fn told_target<W: Watcher<B>>(
+        &mut self,
+        watcher: &mut W,
+        initial: &InitialLists,
+    ) -> Result<(), Ended<W::Stop>>
+        ensures told { (later : List (Ask B)) →
             Passes W.Watcher.words B.Bound.kind self.old
             (opening_ask B.Bound.kind initial.now self.old.unread ∷ later) (W.Watcher.said watcher.old)
-            self.new later (W.Watcher.said watcher.new) result
-        }
-        ensures moved { Moved 192 self.old.unread result self.new.unread }
+            self.new later (W.Watcher.said watcher.new) result }
+        ensures moved { Moved zone_size self.old.unread result self.new.unread }
     {
         self.target(initial)?;
         watcher.zone(self).map_err(|stop| Ended::Stopped(stop))
     }
 
     fn told_zone<W: Watcher<B>>(&mut self, watcher: &mut W) -> Result<(), Ended<W::Stop>>
-        ensures told {
-            (later : List (Ask B)) →
+        ensures told { (later : List (Ask B)) →
             Passes W.Watcher.words B.Bound.kind self.old
             (zone_ask B.Bound.kind self.old.unread.next self.old.unread.rest ∷ later) (W.Watcher.said watcher.old)
-            self.new later (W.Watcher.said watcher.new) result
-        }
-        ensures moved { Moved 192 self.old.unread result self.new.unread }
+            self.new later (W.Watcher.said watcher.new) result }
+        ensures moved { Moved zone_size self.old.unread result self.new.unread }
     {
         self.zone()?;
         watcher.zone(self).map_err(|stop| Ended::Stopped(stop))
@@ -76,31 +82,33 @@ impl<'a, 'm, B: Bound> DocketFile<'a, 'm, B> {
 
     // The watcher hears of a voucher before the docket answers it.
     fn told_voucher<W: Watcher<B>>(&mut self, watcher: &mut W) -> Result<(), Ended<W::Stop>>
-        ensures told {
-            (later : List (Ask B)) →
+        ensures told { (later : List (Ask B)) →
             Passes W.Watcher.words B.Bound.kind self.old
             (voucher_ask B.Bound.kind self.old.unread.next self.old.unread.rest ∷ later) (W.Watcher.said watcher.old)
-            self.new later (W.Watcher.said watcher.new) result
-        }
-        ensures moved { Moved 6 self.old.unread result self.new.unread }
+            self.new later (W.Watcher.said watcher.new) result }
+        ensures moved { Moved voucher_size self.old.unread result self.new.unread }
         ensures closed { OnOk result (IsClosed self.new.world.state.stage) }
     {
         let part = self.voucher_record()?;
-        watcher.voucher(self, part.bytes).map_err(|stop| Ended::Stopped(stop))?;
+        watcher
+            .voucher(self, part.bytes)
+            .map_err(|stop| Ended::Stopped(stop))?;
         self.discharge(part)?;
         Ok(())
     }
 
     // ---- several records
     // The tokens one by one, and the two lists of them. What is wrong with the marking that they are, open answers.
-    fn told_tokens<W: Watcher<B>>(&mut self, watcher: &mut W, count: u8) -> Result<InitialLists, Ended<W::Stop>>
+    fn told_tokens<W: Watcher<B>>(
+        &mut self,
+        watcher: &mut W,
+        count: u8,
+    ) -> Result<InitialLists, Ended<W::Stop>>
         requires { count < 16 }
-        ensures told {
-            (later : List (Ask B)) →
+        ensures told { (later : List (Ask B)) →
             Passes W.Watcher.words B.Bound.kind self.old
             (tokens_asked count 1 self.old.unread.next self.old.unread.rest ++ later) (W.Watcher.said watcher.old)
-            self.new later (W.Watcher.said watcher.new) result
-        }
+            self.new later (W.Watcher.said watcher.new) result }
         ensures lists { IfOk result (λ lists. AsGiven count self.old.unread.rest lists) }
         ensures left { OnOk result (self.new.unread ≡ read_tokens count self.old.unread) }
     {
@@ -112,12 +120,14 @@ impl<'a, 'm, B: Bound> DocketFile<'a, 'm, B> {
         Ok(lists)
     }
 
-    fn told_zones<W: Watcher<B>>(&mut self, watcher: &mut W, count: u8) -> Result<(), Ended<W::Stop>>
-        ensures {
-            Passes W.Watcher.words B.Bound.kind self.old
+    fn told_zones<W: Watcher<B>>(
+        &mut self,
+        watcher: &mut W,
+        count: u8,
+    ) -> Result<(), Ended<W::Stop>>
+        ensures { Passes W.Watcher.words B.Bound.kind self.old
             (zones_asked B.Bound.kind count self.old.unread.next self.old.unread.rest) (W.Watcher.said watcher.old)
-            self.new (proving_asked B.Bound.kind self.new.unread.next self.new.unread.rest) (W.Watcher.said watcher.new) result
-        }
+            self.new (proving_asked B.Bound.kind self.new.unread.next self.new.unread.rest) (W.Watcher.said watcher.new) result }
     {
         for _ in 0..count {
             self.told_zone(watcher)?;
@@ -128,11 +138,9 @@ impl<'a, 'm, B: Bound> DocketFile<'a, 'm, B> {
     // Every voucher to the end of the file.
     fn told_vouchers<W: Watcher<B>>(&mut self, watcher: &mut W) -> Result<(), Ended<W::Stop>>
         requires { IsClosed self.old.world.state.stage }
-        ensures told {
-            Passes W.Watcher.words B.Bound.kind self.old
+        ensures told { Passes W.Watcher.words B.Bound.kind self.old
             (vouchers_asked B.Bound.kind (voucher_count B.Bound.kind self.old.unread.rest) self.old.unread.next self.old.unread.rest)
-            (W.Watcher.said watcher.old) self.new [] (W.Watcher.said watcher.new) result
-        }
+            (W.Watcher.said watcher.old) self.new [] (W.Watcher.said watcher.new) result }
         ensures closed { OnOk result (IsClosed self.new.world.state.stage) }
     {
         while !self.is_at_end() {
@@ -143,11 +151,9 @@ impl<'a, 'm, B: Bound> DocketFile<'a, 'm, B> {
 
     // There is no record of a close, and nothing is told of it.
     fn told_close<W: Watcher<B>>(&mut self, watcher: &mut W) -> Result<(), Ended<W::Stop>>
-        ensures told {
-            (later : List (Ask B)) →
+        ensures told { (later : List (Ask B)) →
             Passes W.Watcher.words B.Bound.kind self.old (Make self.old.unread.next Close ∷ later) (W.Watcher.said watcher.old)
-            self.new later (W.Watcher.said watcher.new) result
-        }
+            self.new later (W.Watcher.said watcher.new) result }
         ensures unread { self.new.unread ≡ self.old.unread }
         ensures closed { OnOk result (IsClosed self.new.world.state.stage) }
     {
@@ -156,13 +162,15 @@ impl<'a, 'm, B: Bound> DocketFile<'a, 'm, B> {
     }
 
     // What the header says, up to the last listed zone.
-    fn listing<W: Watcher<B>>(&mut self, watcher: &mut W, header: DocketHeader) -> Result<(), Ended<W::Stop>>
+    fn listing<W: Watcher<B>>(
+        &mut self,
+        watcher: &mut W,
+        header: DocketHeader,
+    ) -> Result<(), Ended<W::Stop>>
         requires { header.initial < 16 }
-        ensures {
-            Passes W.Watcher.words B.Bound.kind self.old
+        ensures { Passes W.Watcher.words B.Bound.kind self.old
             (marking_asked B.Bound.kind header self.old.unread.next self.old.unread.rest) (W.Watcher.said watcher.old)
-            self.new (proving_asked B.Bound.kind self.new.unread.next self.new.unread.rest) (W.Watcher.said watcher.new) result
-        }
+            self.new (proving_asked B.Bound.kind self.new.unread.next self.new.unread.rest) (W.Watcher.said watcher.new) result }
     {
         let lists = self.told_tokens(watcher, header.initial)?;
         self.told_target(watcher, &lists)?;
@@ -171,11 +179,9 @@ impl<'a, 'm, B: Bound> DocketFile<'a, 'm, B> {
 
     // The list is closed, and its items are answered.
     fn proving<W: Watcher<B>>(&mut self, watcher: &mut W) -> Result<(), Ended<W::Stop>>
-        ensures told {
-            Passes W.Watcher.words B.Bound.kind self.old
+        ensures told { Passes W.Watcher.words B.Bound.kind self.old
             (proving_asked B.Bound.kind self.old.unread.next self.old.unread.rest) (W.Watcher.said watcher.old)
-            self.new [] (W.Watcher.said watcher.new) result
-        }
+            self.new [] (W.Watcher.said watcher.new) result }
         ensures closed { OnOk result (IsClosed self.new.world.state.stage) }
     {
         self.told_close(watcher)?;
@@ -184,11 +190,9 @@ impl<'a, 'm, B: Bound> DocketFile<'a, 'm, B> {
 
     // Every record, up to the end of the file.
     fn records<W: Watcher<B>>(&mut self, watcher: &mut W) -> Result<Line, Ended<W::Stop>>
-        ensures {
-            Comes W.Watcher.words B.Bound.kind self.old
+        ensures { Comes W.Watcher.words B.Bound.kind self.old
             (docket_asked B.Bound.kind self.old.unread.next self.old.unread.rest)
-            (W.Watcher.said watcher.old) (W.Watcher.said watcher.new) result
-        }
+            (W.Watcher.said watcher.old) (W.Watcher.said watcher.new) result }
     {
         let header = self.told_header(watcher)?;
         self.listing(watcher, header)?;
@@ -201,17 +205,13 @@ impl<'a, 'm, B: Bound> DocketFile<'a, 'm, B> {
 
     /// Makes every call that the records ask for, and comes to the line, unless the watcher stops it.
     pub fn walk<W: Watcher<B>>(&mut self, watcher: &mut W) -> Result<Line, W::Stop>
-        ensures told {
-            IfOk result (λ line.
+        ensures told { IfOk result (λ line.
             Tells W.Watcher.words B.Bound.kind self.old
             (docket_asked B.Bound.kind self.old.unread.next self.old.unread.rest)
-            (W.Watcher.said watcher.old) (W.Watcher.said watcher.new) line)
-        }
-        ensures line {
-            IfOk result (λ line.
+            (W.Watcher.said watcher.old) (W.Watcher.said watcher.new) line) }
+        ensures line { IfOk result (λ line.
             Runs B.Bound.kind self.old.net self.old.world
-            (docket_asked B.Bound.kind self.old.unread.next self.old.unread.rest) line)
-        }
+            (docket_asked B.Bound.kind self.old.unread.next self.old.unread.rest) line) }
     {
         match self.records(watcher) {
             Ok(line) => Ok(line),

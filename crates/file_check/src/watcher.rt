@@ -35,10 +35,8 @@ pub trait Watcher<B: Bound>: Sized {
 
     /// The docket of this file is about to answer this voucher.
     fn voucher(&mut self, file: &DocketFile<'_, '_, B>, voucher: &[u8]) -> Result<(), Self::Stop>
-        ensures {
-            OnOk result
-            (said self.new ≡ said self.old ++ words.voucher file.now.world.state (voucher_of voucher.now))
-        };
+        ensures { OnOk result
+            (said self.new ≡ said self.old ++ words.voucher file.now.world.state (voucher_of voucher.now)) };
 }
 
 /// A watcher who says nothing.
@@ -46,14 +44,12 @@ pub trait Watcher<B: Bound>: Sized {
 pub struct Silent;
 
 impl<B: Bound> Watcher<B> for Silent {
-    ghost words = {
-        record {
-        header = λ header. [];
-        token = λ number token. [];
-        zone = λ world. [];
-        voucher = λ state voucher. []
-        }
-    };
+    ghost words = { record {
+      header = λ header. [];
+      token = λ number token. [];
+      zone = λ world. [];
+      voucher = λ state voucher. [];
+    } };
 
     ghost said = { λ s. [] };
 
@@ -71,7 +67,11 @@ impl<B: Bound> Watcher<B> for Silent {
         Ok(())
     }
 
-    fn voucher(&mut self, _file: &DocketFile<'_, '_, B>, _voucher: &[u8]) -> Result<(), Infallible> {
+    fn voucher(
+        &mut self,
+        _file: &DocketFile<'_, '_, B>,
+        _voucher: &[u8],
+    ) -> Result<(), Infallible> {
         Ok(())
     }
 }

@@ -15,10 +15,8 @@ use zone_drafts::draft::DRAFT_CELLS;
 
 // The line of the records that are left, with nobody to hear of them.
 fn line_of<B: Bound>(file: &mut DocketFile<'_, '_, B>) -> Line
-    ensures {
-        Runs B.Bound.kind file.old.net file.old.world
-        (docket_asked B.Bound.kind file.old.unread.next file.old.unread.rest) result
-    }
+    ensures { Runs B.Bound.kind file.old.net file.old.world
+        (docket_asked B.Bound.kind file.old.unread.next file.old.unread.rest) result }
 {
     match file.walk(&mut Silent) {
         Ok(line) => line,

@@ -7,4 +7,4 @@ use Rattle.file_check.proofs.file.DocketFile.close.Goals as goal
 pub returns-clause-made : goal.returns-clause-made
 returns-clause-made g c =
     rw (sym c.self.view_is)
-    (called g.B.Bound.kind _ _ c.close-answer.result refl c.self.inside.reader.next Close c.filed.result (c.filed.ensures ∙ ap (λ n. filed n c.close-answer.result) c.number-at.ensures) (c.close-answer.ensures, refl, refl))
+    (called g.B.Bound.kind _ _ c.close-answer.result refl c.self.inside.reader.next Close c.filed.result (c.filed.ensures ∙ ap (λ n. filed n c.close-answer.result) c.number-at.ensures) (c.close-answer.ensures, record { cells = refl; places = refl }))

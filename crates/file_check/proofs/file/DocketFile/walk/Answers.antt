@@ -1,8 +1,8 @@
-use Rattle.std.proofs.Common.{subst}
+use Rattle.std.proofs.Common.{Err, ap, ◌∙◌, subst}
 use Rattle.file_check.proofs.Walking.{tells_runs}
 use Rattle.file_check.proofs.file.DocketFile.walk.Goals as goal
+use Rattle.file_check.specs.Walks.{Comes}
 use Rattle.file_rules.specs.Asks.{docket_asked}
-use Rattle.file_rules.specs.Reports.{Runs}
 use Rattle.file_rules.specs.declared.line.Line.TheVariants.{Refused}
 
 pub returns-in-Ok-clause-line : goal.returns-in-Ok-clause-line
@@ -12,8 +12,12 @@ returns-in-Ok-clause-line g c =
 
 pub returns-in-Err-Refused-clause-line : goal.returns-in-Err-Refused-clause-line
 returns-in-Err-Refused-clause-line g c =
+    let words = g.W.Watcher.words in
     let kind = g.B.Bound.kind in
     let file = c.args.self.now in
     let asks = docket_asked kind file.unread.next file.unread.rest in
-    subst (λ fault. Runs kind file.net file.world asks (Refused fault)) c.in-Err-Refused.fault-is
-    (tells_runs g.W.Watcher.words kind file.net asks file.world (g.W.Watcher.said c.args.watcher.now) (g.W.Watcher.said c.records.new.watcher) (Refused c.in-Err-Refused.field-0) c.in-Err-Refused.ensures)
+    let first = g.W.Watcher.said c.args.watcher.now in
+    let last = g.W.Watcher.said c.records.new.watcher in
+    let here = c.in-Err-Refused in
+    tells_runs words kind file.net asks file.world first last (Refused here.fault)
+    (subst (λ r. Comes words kind file asks first last r) (here.is ∙ ap Err here.field-0-is) c.records.ensures)

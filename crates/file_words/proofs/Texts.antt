@@ -1,4 +1,4 @@
--- Texts that grow by one piece after the other. Assumes nothing.
+-- Texts that grow by one piece after the other.
 use Rattle.std.proofs.Common.{◌≡◌, ℕ, suc, List, ◌++◌, ap, ◌∙◌, append_assoc}
 use Rattle.file_words.specs.Tables.{below}
 

@@ -1,5 +1,5 @@
--- The docket header and an initial token, written for people. Assumes nothing.
-use Rattle.std.specs.Prelude.{ℕ, List, ◌++◌, codes, decimal}
+-- The docket header and an initial token, written for people.
+use Rattle.std.specs.Prelude.{ℕ, List, [], ◌∷◌, ◌++◌, codes, decimal}
 use Rattle.docket_records.specs.declared.docket_header.DocketHeader.{DocketHeader}
 use Rattle.docket_records.specs.declared.token.InitialToken.{InitialToken}
 use Rattle.net_words.specs.Summaries.{counted_text}
@@ -10,3 +10,10 @@ head_text h =
 
 abbrev pub initial_text : ℕ → InitialToken → List ℕ
 initial_text n t = codes "initial token " ++ (decimal n ++ (codes " in place " ++ (decimal t.place ++ (codes ", age " ++ decimal t.age))))
+
+-- ---- as lines of their own
+abbrev pub head_line : DocketHeader → List ℕ
+head_line h = head_text h ++ (10 ∷ [])
+
+abbrev pub initial_line : ℕ → InitialToken → List ℕ
+initial_line number token = initial_text number token ++ (10 ∷ [])

@@ -1,5 +1,4 @@
 -- An item that is due, and what a voucher claims of it, written for people.
--- Assumes nothing.
 use Rattle.std.specs.Prelude.{ℕ, ◌+◌, cond, List, [], ◌∷◌, ◌++◌, codes, decimal, length, take, min, Option, Some, None, ◌==◌, slice_index}
 use Rattle.file_words.specs.Tables.{below}
 use Rattle.docket_dues.specs.declared.item.Item.{Item}
@@ -37,8 +36,14 @@ due_text (Some d) = item_text d
 abbrev pub claim_text : Voucher → (used : ℕ) → List ℕ
 claim_text v used = cond v.void (codes "void") (codes "zone " ++ (decimal v.zone ++ (codes ", tokens" ++ numbers_text (take used v.partners))))
 
--- vouchers are numbered from 1, as the docket counts them
+-- vouchers are numbered from 1
+abbrev pub voucher_text : (number : ℕ) → Option Item → Voucher → (used : ℕ) → List ℕ
+voucher_text number due v used =
+    codes "voucher "
+    ++ (decimal number ++ (codes " for " ++ (due_text due ++ (codes ": " ++ claim_text v used))))
+
+-- a voucher before its answer, numbered as the docket counts them
 abbrev pub voucher_line : State → Voucher → List ℕ
 voucher_line s v =
-    codes "voucher "
-    ++ (decimal (min (s.taken + 1) most_taken) ++ (codes " for " ++ (due_text (next_due_of s.stage) ++ (codes ": " ++ (claim_text v (partners_used s v) ++ (10 ∷ []))))))
+    voucher_text (min (s.taken + 1) most_taken) (next_due_of s.stage) v (partners_used s v)
+    ++ (10 ∷ [])

@@ -1,8 +1,5 @@
 -- How the docket part of a file is written for people, part by part and whole.
-pub mod Ends
-pub mod Files
 pub mod Heads
-pub mod Initial
 pub mod Items
 pub mod Lines
 pub mod Tables

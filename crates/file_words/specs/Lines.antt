@@ -1,9 +1,8 @@
--- The line of a file, written for people. Assumes nothing.
+-- The line of a file, written for people.
 use Rattle.std.specs.Prelude.{ℕ, List, [], ◌∷◌, ◌++◌, codes}
 use Rattle.file_words.specs.Items.{item_text}
 use Rattle.net_words.specs.Summaries.{counted_text}
 use Rattle.file_rules.specs.FileRefusals.{file_fault_text}
-use Rattle.file_rules.specs.declared.fault.FileFault.{FileFault}
 use Rattle.file_rules.specs.declared.line.Line.{Line}
 use Rattle.file_rules.specs.declared.line.Line.TheVariants.{Sealed, Due as StillDue, Refused}
 
@@ -14,6 +13,3 @@ line_words (Refused fault) = codes "refused " ++ file_fault_text fault
 
 abbrev pub last_line : Line → List ℕ
 last_line line = line_words line ++ (10 ∷ [])
-
-abbrev pub refusal_line : FileFault → List ℕ
-refusal_line fault = last_line (Refused fault)

@@ -1,7 +1,7 @@
 -- The bounds of a zone, written for people as a table.
 --     words     how a bound is written
 --     bounds    the bound on the age of one point less the age of another, by the numbers of the two
--- Assumes nothing.
+--
 use Rattle.std.specs.Prelude.{ℕ, zero, suc, cond, List, [], ◌∷◌, ◌++◌, codes, decimal, ◌==◌}
 
 -- the texts of the numbers below n, one after the other

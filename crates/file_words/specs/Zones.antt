@@ -1,4 +1,4 @@
--- A zone, written for people: its tokens with their places, and the table of its bounds. Assumes nothing.
+-- A zone, written for people: its tokens with their places, and the table of its bounds.
 use Rattle.std.specs.Prelude.{ℕ, ◌+◌, List, [], ◌∷◌, ◌++◌, codes, decimal, length, slice_index}
 use Rattle.net_words.specs.Summaries.{counted_text}
 use Rattle.file_words.specs.Tables.{below, numbered_text, table_text}

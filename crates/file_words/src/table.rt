@@ -29,11 +29,14 @@ impl fmt::Display for Column {
 // Cells, rows and the table are no `Display`: a kind writes its bounds to a `String` alone.
 fn write_cell<B: BoundWords>(
     text: &mut String,
-    page: &Page<'_, '_, B>,
+    page: &Page<'_, B>,
     row: u8,
     column: u8,
 ) -> Result<(), AllocError>
-    ensures { OnOk result (string_bytes text.new ≡ string_bytes text.old ++ cell_text B.BoundWords.words (in_page B.Bound.kind page.now.cells.now) row column) }
+    ensures { OnOk result
+        (string_bytes text.new
+        ≡ string_bytes text.old
+        ++ cell_text B.BoundWords.words (in_page B.Bound.kind page.now.cells.now) row column) }
 {
     let point = Column(column);
     write!(text, "{point}")?;
@@ -42,11 +45,14 @@ fn write_cell<B: BoundWords>(
 
 fn write_row<B: BoundWords>(
     text: &mut String,
-    page: &Page<'_, '_, B>,
+    page: &Page<'_, B>,
     tokens: u8,
     row: u8,
 ) -> Result<(), AllocError>
-    ensures { OnOk result (string_bytes text.new ≡ string_bytes text.old ++ row_text B.BoundWords.words (in_page B.Bound.kind page.now.cells.now) (tokens + 1) row) }
+    ensures { OnOk result
+        (string_bytes text.new
+        ≡ string_bytes text.old
+        ++ row_text B.BoundWords.words (in_page B.Bound.kind page.now.cells.now) (tokens + 1) row) }
 {
     let point = Numbered::point(row);
     write!(text, "  {point} less:")?;
@@ -60,10 +66,13 @@ fn write_row<B: BoundWords>(
 
 pub fn write_table<B: BoundWords>(
     text: &mut String,
-    page: &Page<'_, '_, B>,
+    page: &Page<'_, B>,
     tokens: u8,
 ) -> Result<(), AllocError>
-    ensures { OnOk result (string_bytes text.new ≡ string_bytes text.old ++ table_text B.BoundWords.words (in_page B.Bound.kind page.now.cells.now) (tokens + 1)) }
+    ensures { OnOk result
+        (string_bytes text.new
+        ≡ string_bytes text.old
+        ++ table_text B.BoundWords.words (in_page B.Bound.kind page.now.cells.now) (tokens + 1)) }
 {
     for row in 0..tokens {
         write_row(text, page, tokens, row)?;

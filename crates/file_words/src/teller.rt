@@ -1,39 +1,53 @@
-// What is told of a file: the text so far, with the file whose records are given to its docket; and why a text ends early.
-ghost use Rattle.file_words.specs.declared.teller.Ended.TheVariants.{NoMemory, Refused};
-ghost use Rattle.file_rules.specs.Asks.{scratch_page};
-ghost use Rattle.std.specs.Prelude.{◌≡◌};
+// The watcher who tells what a file says: each record in words, as a line or more of a text.
+ghost use Rattle.file_words.specs.Told.{teller_words};
+ghost use Rattle.std.specs.Prelude.{◌≡◌, ◌++◌, string_bytes};
 
-use bounds::Bound;
-use file_check::DocketFile;
-use file_rules::FileFault;
+use crate::bound::BoundWords;
+use crate::head::{HeaderWords, TokenWords};
+use crate::voucher::write_voucher;
+use crate::zone::write_last;
+use docket_records::docket_header::DocketHeader;
+use docket_records::token::InitialToken;
+use file_check::{DocketFile, Watcher};
 use std::alloc::AllocError;
+use std::marker::Model;
 
+/// A text that grows as a file is walked.
 #[derive(Drop)]
-pub(crate) struct Teller<'a, 'm, B: Bound> {
-    pub text: String,
-    pub file: DocketFile<'a, 'm, B>,
-    ghost clear: { file.scratch.now ≡ scratch_page B.Bound.kind },
+pub struct Teller {
+    pub(crate) text: String,
 }
 
-pub(crate) enum Ended {
-    // no memory for more
-    NoMemory(AllocError),
-    // a fault, which the last line is to name
-    Refused(FileFault),
+impl Model for Teller {
+    ghost use Rattle.std.specs.Prelude.{ℕ, List, string_bytes};
+
+    ghost Value = { List ℕ };
+
+    ghost view = { λ t. string_bytes t.text };
 }
 
-impl From<AllocError> for Ended {
-    ghost from_gives = { λ e r. r ≡ NoMemory e };
+impl<B: BoundWords> Watcher<B> for Teller {
+    ghost words = { teller_words B.Bound.kind B.BoundWords.words };
 
-    fn from(e: AllocError) -> Ended {
-        Ended::NoMemory(e)
+    ghost said = { λ t. t };
+
+    type Stop = AllocError;
+
+    fn header(&mut self, header: DocketHeader) -> Result<(), AllocError> {
+        let words = HeaderWords(header);
+        writeln!(self.text, "{words}")
     }
-}
 
-impl From<FileFault> for Ended {
-    ghost from_gives = { λ fault r. r ≡ Refused fault };
+    fn token(&mut self, number: u8, token: InitialToken) -> Result<(), AllocError> {
+        let words = TokenWords { number, token };
+        writeln!(self.text, "{words}")
+    }
 
-    fn from(fault: FileFault) -> Ended {
-        Ended::Refused(fault)
+    fn zone(&mut self, file: &DocketFile<'_, '_, B>) -> Result<(), AllocError> {
+        write_last(&mut self.text, file)
+    }
+
+    fn voucher(&mut self, file: &DocketFile<'_, '_, B>, voucher: &[u8]) -> Result<(), AllocError> {
+        write_voucher(&mut self.text, file, voucher)
     }
 }

@@ -1,8 +1,7 @@
 // A voucher in words: the item that is due, and what the voucher claims.
-ghost use Rattle.docket.specs.Dockets.{state_of};
-ghost use Rattle.file_words.specs.Items.{claim_text, due_text, voucher_line};
+ghost use Rattle.file_words.specs.Items.{claim_text, voucher_line, voucher_text};
 ghost use Rattle.docket_records.specs.Vouchers.{voucher_of};
-ghost use Rattle.std.specs.Prelude.{◌≡◌, ◌++◌, Some, codes, decimal, string_bytes, OnOk};
+ghost use Rattle.std.specs.Prelude.{◌≡◌, ◌++◌, Some, string_bytes, OnOk};
 
 use crate::item::{DueWords, Spaced};
 use bounds::Bound;
@@ -48,7 +47,7 @@ struct VoucherWords {
 }
 
 impl fmt::Display for VoucherWords {
-    ghost output = { λ v. Some (codes "voucher " ++ (decimal v.number ++ (codes " for " ++ (due_text v.due ++ (codes ": " ++ claim_text v.claim.voucher v.claim.used))))) };
+    ghost output = { λ v. Some (voucher_text v.number v.due v.claim.voucher v.claim.used) };
 
     fn fmt<W: fmt::Write>(&self, f: &mut fmt::Formatter<W>) -> fmt::Result {
         let number = self.number;
@@ -64,7 +63,9 @@ pub(crate) fn write_voucher<B: Bound>(
     file: &DocketFile<'_, '_, B>,
     bytes: &[u8],
 ) -> Result<(), AllocError>
-    ensures { OnOk result (string_bytes text.new ≡ string_bytes text.old ++ voucher_line (state_of file.now.docket) (voucher_of bytes.now)) }
+    ensures { OnOk result
+        (string_bytes text.new
+        ≡ string_bytes text.old ++ voucher_line file.now.world.state (voucher_of bytes.now)) }
 {
     let voucher = Voucher::fields(bytes);
     let words = VoucherWords {

@@ -1,10 +1,8 @@
 // A zone in words: its tokens with their places, and the table of its bounds.
 ghost use Rattle.std.specs.Prelude.{◌≡◌, ◌<◌, ◌++◌, Some, string_bytes, length, OnOk};
 ghost use Rattle.zone_cells.specs.Cells.{in_page};
-ghost use Rattle.docket.specs.Dockets.{world_of};
-ghost use Rattle.file_words.specs.Told.{page_text};
+ghost use Rattle.file_words.specs.Told.{last_page_text};
 ghost use Rattle.file_words.specs.Zones.{places_text, zone_text};
-ghost use Rattle.docket_rules.specs.Worlds.{listed_count};
 
 use crate::bound::BoundWords;
 use crate::numbered::Numbered;
@@ -35,10 +33,14 @@ impl<'a> fmt::Display for Places<'a> {
 fn write_zone<B: BoundWords>(
     text: &mut String,
     number: u8,
-    page: &Page<'_, '_, B>,
+    page: &Page<'_, B>,
 ) -> Result<(), AllocError>
     requires { length page.now.places.now < 256 }
-    ensures { OnOk result (string_bytes text.new ≡ string_bytes text.old ++ zone_text B.BoundWords.words number page.now.places.now (in_page B.Bound.kind page.now.cells.now)) }
+    ensures { OnOk result
+        (string_bytes text.new
+        ≡ string_bytes text.old
+        ++ zone_text B.BoundWords.words number page.now.places.now
+        (in_page B.Bound.kind page.now.cells.now)) }
 {
     let name = Numbered::zone(number);
     let count = page.places.len() as u8;
@@ -56,7 +58,9 @@ pub(crate) fn write_last<B: BoundWords>(
     text: &mut String,
     file: &DocketFile<'_, '_, B>,
 ) -> Result<(), AllocError>
-    ensures { OnOk result (string_bytes text.new ≡ string_bytes text.old ++ (let w = world_of file.now.docket file.now.cells.now file.now.places.now in page_text B.Bound.kind B.BoundWords.words w (listed_count w.state))) }
+    ensures { OnOk result
+        (string_bytes text.new
+        ≡ string_bytes text.old ++ last_page_text B.Bound.kind B.BoundWords.words file.now.world) }
 {
     let number = file.listed();
     write_zone(text, number, &file.page(number))

@@ -1,6 +1,6 @@
 use Rattle.std.proofs.Common.{string_bytes, arith}
 use Rattle.std.proofs.lemmas.Result.{IfOk-weaker}
-use Rattle.file_words.proofs.Marking.{part_docket}
+use Rattle.file_words.proofs.Wholes.{part_docket}
 use Rattle.net_records.specs.declared.header.NetKind.TheVariants.{Plain, Marked}
 use Rattle.file_words.proofs.whole.with_docket.Goals as goal
 

@@ -1,8 +1,11 @@
 pub mod Kinds
 pub mod Limits
 pub mod Codings
+pub mod Words
 pub mod PlainKind
+pub mod Places
 pub mod MarkedKind
+pub mod Numbers
 pub mod Ranges
 pub mod Texts
 pub mod MadeTexts

@@ -1,41 +1,79 @@
--- What plain bounds mean: a number without a mark, or no limit.
-use Rattle.std.specs.Prelude.{◌≡◌, true, false, ℤ, Some, None, Option, refl, IsTrue}
-use Rattle.std.proofs.lemmas.Bool.{false≢true}
-use Rattle.bounds.specs.Kinds.{Kind}
+-- What plain bounds mean: one word, which is a number without a mark or says that there is no limit.
+use Rattle.std.specs.Prelude.{◌≡◌, ◌≤◌, Bool, true, false, ℤ, pos, int_le, nat_le}
+use Rattle.std.specs.Prelude.{unsigned_abs, refl, IsTrue, if◌then◌else◌}
+use Rattle.std.proofs.Common.{arith, sym, ap, ◌∙◌, ⊎_elim}
+use Rattle.std.proofs.lemmas.Bool.{false≢true, cond-true, le-leb}
+use borrow.Author.Differences.{ints}
+use mathlib.Core.HLevel.{is_prop→PathP}
+use mathlib.Core.Bool.{Bool-set}
+use Rattle.bounds.specs.Kinds.{Kind, largest_size}
 use Rattle.bounds.specs.Limits.{Limit, limit_strict}
 use Rattle.bounds.specs.Limits.Limit.{number, unlimited}
-use Rattle.bounds.specs.Codings.{Held, coded_kind}
+use Rattle.bounds.specs.Codings.{Coding, Held, coded_kind}
+use Rattle.bounds.specs.Words.{no_limit_word, is_plain_word, capped_word, word_cases, capped_held}
 use Rattle.bounds.specs.declared.plain.PlainBound.{PlainBound}
 
-abbrev pub plain_limit : Option ℤ → Limit
-plain_limit (Some c) = number c false
-plain_limit None = unlimited
+abbrev pub plain_limit : ℤ → Limit
+plain_limit z = if int_le z (pos largest_size) then number z false else unlimited
 
-abbrev pub plain_of : Limit → Option ℤ
-plain_of (number c s) = Some c
-plain_of unlimited = None
+abbrev pub plain_word : Limit → ℤ
+plain_word (number c s) = capped_word c
+plain_word unlimited = no_limit_word
 
--- its facts are shown within it, so that an edit of what plain bounds mean is refused for its meaning
-abbrev pub plain_kind : Kind PlainBound
-plain_kind =
-    coded_kind (record {
+pub plain_held : (l : Limit) → IsTrue (is_plain_word (plain_word l))
+plain_held (number c s) = capped_held c
+plain_held unlimited = refl
+
+abbrev pub plain_of : Limit → PlainBound
+plain_of l = record { limit = plain_word l; held = plain_held l }
+
+-- bounds of one word are the same
+pub same_plain : (a b : PlainBound) → a.limit ≡ b.limit → a ≡ b
+same_plain a b e i =
+    record {
+      limit = e i;
+      held =
+          is_prop→PathP (λ i. IsTrue (is_plain_word (e i))) (λ i. Bool-set (is_plain_word (e i)) true) a.held b.held i;
+    }
+
+-- ---- each word stands for one limit, and each limit that is asked for has its word
+pub plain_back : (z : ℤ) → IsTrue (is_plain_word z) → plain_word (plain_limit z) ≡ z
+plain_back z h = ⊎_elim small past (word_cases z h)
+  where
+    small : unsigned_abs z ≤ largest_size → plain_word (plain_limit z) ≡ z
+    small s =
+        let below : int_le z (pos largest_size) ≡ true = sym (omega (arith, ints)) in
+        ap plain_word (cond-true (int_le z (pos largest_size)) (number z false) unlimited below)
+        ∙ cond-true (nat_le (unsigned_abs z) largest_size) z no_limit_word (le-leb (unsigned_abs z) largest_size s)
+
+    past : z ≡ no_limit_word → plain_word (plain_limit z) ≡ z
+    past e = ap (λ y. plain_word (plain_limit y)) e ∙ sym e
+
+pub plain_reads : (l : Limit) → Held false l → plain_limit (plain_word l) ≡ l
+plain_reads (number c true) h = absurd (false≢true (h.takes refl))
+plain_reads (number c false) h =
+    let below : int_le c (pos largest_size) ≡ true = sym (omega (arith, ints, h.small)) in
+    ap plain_limit (cond-true (nat_le (unsigned_abs c) largest_size) c no_limit_word (le-leb (unsigned_abs c) largest_size h.small))
+    ∙ cond-true (int_le c (pos largest_size)) (number c false) unlimited below
+plain_reads unlimited h = refl
+
+pub plain_marked : (z : ℤ) → IsTrue (limit_strict (plain_limit z)) → IsTrue false
+plain_marked z = by_test (int_le z (pos largest_size))
+  where
+    by_test : (t : Bool) → IsTrue (limit_strict (if t then number z false else unlimited)) → IsTrue false
+    by_test true e = e
+    by_test false e = e
+
+abbrev pub plain_coding : Coding PlainBound
+plain_coding =
+    record {
       marks = false;
       view = λ b. plain_limit b.limit;
-      of = λ l. record { limit = plain_of l };
-      back = λ b i. record { limit = back b.limit i };
-      reads = reads;
-      marked = λ b. marked b.limit;
-    })
-  where
-    back : (o : Option ℤ) → plain_of (plain_limit o) ≡ o
-    back (Some c) = refl
-    back None = refl
+      of = plain_of;
+      back = λ b. same_plain (plain_of (plain_limit b.limit)) b (plain_back b.limit b.held);
+      reads = plain_reads;
+      marked = λ b. plain_marked b.limit;
+    }
 
-    reads : (l : Limit) → Held false l → plain_limit (plain_of l) ≡ l
-    reads (number c true) h = absurd (false≢true (h.takes refl))
-    reads (number c false) h = refl
-    reads unlimited h = refl
-
-    marked : (o : Option ℤ) → IsTrue (limit_strict (plain_limit o)) → IsTrue false
-    marked (Some c) e = e
-    marked None e = e
+abbrev pub plain_kind : Kind PlainBound
+plain_kind = coded_kind plain_coding

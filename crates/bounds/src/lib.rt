@@ -3,15 +3,15 @@
 #![tactic(auto)]
 
 pub mod bound;
-mod capped;
 pub mod made;
 pub mod marked;
 pub mod plain;
 pub mod range;
+mod words;
 
 pub use bound::{Bound, NO_LIMIT_TEXT};
-pub use capped::LARGEST_SIZE;
 pub use made::{LARGEST_NUMBER, MakeError, bound_of, within_limits};
 pub use marked::{MarkedBound, MarkedNumber};
 pub use plain::PlainBound;
 pub use range::Range;
+pub use words::LARGEST_SIZE;

@@ -1,13 +1,13 @@
-//! Marked bounds: a whole number, perhaps strict, or no limit.
-ghost use Rattle.bounds.specs.Kinds.{number_allows};
+//! Marked bounds: a whole number, perhaps strict, or no limit, in one word.
+ghost use Rattle.bounds.specs.Kinds.{largest_size, number_allows, place};
 ghost use Rattle.bounds.specs.Limits.Limit.{number};
-ghost use Rattle.bounds.specs.MarkedKind.{marked_kind, marked_limit};
+ghost use Rattle.bounds.specs.Places.{is_marked_word};
 ghost use Rattle.bounds.specs.Texts.{limit_text};
-ghost use Rattle.std.specs.Prelude.{◌≡◌, Some};
+ghost use Rattle.std.specs.Prelude.{◌≡◌, ◌≤◌, Some, IsTrue, unsigned_abs};
 
 use crate::bound::{Bound, NO_LIMIT_TEXT};
-use crate::capped::capped_sum;
 use crate::made::{MakeError, within_limits};
+use crate::words::{LARGEST_SIZE, NO_LIMIT_WORD};
 use std::fmt;
 
 /// A number with its mark.
@@ -20,8 +20,13 @@ pub struct MarkedNumber {
 /// A bound that may be strict.
 #[derive(Clone, Copy, PartialEq, Eq, Debug)]
 pub struct MarkedBound {
-    limit: Option<MarkedNumber>,
+    /// 2c for c strict and 2c + 1 for c, so that bounds compare as words do; or the word for no limit
+    limit: i64,
+    ghost held: { IsTrue (is_marked_word limit) },
 }
+
+/// The word of the largest number.
+const LARGEST_WORD: i64 = 2 * LARGEST_SIZE + 1;
 
 impl MarkedNumber {
     /// At most 0, which is no strict bound.
@@ -42,55 +47,91 @@ impl MarkedNumber {
     }
 }
 
-impl MarkedBound {
-    pub(crate) fn limited(limit: MarkedNumber) -> MarkedBound
-        ensures { result ≡ record { limit = Some limit } }
+impl MarkedNumber {
+    /// Its place in the order of bounds.
+    fn place(self) -> i64
+        requires { unsigned_abs self.number ≤ largest_size }
+        ensures { result ≡ place self.number self.strict }
     {
-        MarkedBound { limit: Some(limit) }
+        2 * self.number + i64::from(!self.strict)
+    }
+}
+
+impl MarkedBound {
+    ghost use Rattle.bounds.specs.MarkedKind.{marked_limit};
+    ghost use Rattle.bounds.specs.Numbers.{numbered_limit};
+    ghost use Rattle.bounds.specs.Places.{capped_place, even, half};
+    ghost use Rattle.std.specs.Prelude.{◌≡◌};
+
+    /// The bound of a number; no limit where it is past the largest size.
+    pub(crate) fn capped(limit: MarkedNumber) -> MarkedBound
+        ensures { result.limit ≡ capped_place limit.number limit.strict }
+    {
+        if -LARGEST_SIZE <= limit.number && limit.number <= LARGEST_SIZE {
+            MarkedBound {
+                limit: limit.place(),
+            }
+        } else {
+            MarkedBound {
+                limit: NO_LIMIT_WORD,
+            }
+        }
+    }
+
+    /// What stands in the word: a number and its mark.
+    fn parts(self) -> MarkedNumber
+        ensures { result ≡ record { number = half self.limit; strict = even self.limit } }
+    {
+        MarkedNumber {
+            number: self.limit >> 1,
+            strict: self.limit % 2 == 0,
+        }
+    }
+
+    /// The number with its mark, unless there is no limit.
+    fn number(self) -> Option<MarkedNumber>
+        ensures { numbered_limit result ≡ marked_limit self.limit }
+    {
+        (self.limit <= LARGEST_WORD).then_some(self.parts())
     }
 }
 
 impl Bound for MarkedBound {
+    ghost use Rattle.bounds.specs.MarkedKind.{marked_kind};
+
     ghost kind = { marked_kind };
 
     fn zero() -> MarkedBound {
-        MarkedBound::limited(MarkedNumber::ZERO)
+        MarkedBound::capped(MarkedNumber::ZERO)
     }
 
     fn no_limit() -> MarkedBound {
-        MarkedBound { limit: None }
+        MarkedBound {
+            limit: NO_LIMIT_WORD,
+        }
     }
 
     fn make(number: i32, strict: bool) -> Result<MarkedBound, MakeError> {
         let number = within_limits(number)?;
-        Ok(MarkedBound::limited(MarkedNumber { number, strict }))
+        Ok(MarkedBound::capped(MarkedNumber { number, strict }))
     }
 
-    // This and `at_most` take bounds apart by matches: the parts of three words stay in registers, and
-    // through closures and a pair they do not.
+    // The sum with the word for no limit is past the largest size too, so no test is needed for it.
     fn sum(self, other: MarkedBound) -> MarkedBound {
-        let (Some(a), Some(b)) = (self.limit, other.limit) else {
-            return MarkedBound { limit: None };
-        };
-        match capped_sum(a.number, b.number) {
-            Some(number) => MarkedBound::limited(MarkedNumber {
-                number,
-                strict: a.strict | b.strict,
-            }),
-            None => MarkedBound { limit: None },
-        }
+        let a = self.parts();
+        let b = other.parts();
+        MarkedBound::capped(MarkedNumber {
+            number: a.number + b.number,
+            strict: a.strict | b.strict,
+        })
     }
 
     fn at_most(self, other: MarkedBound) -> bool {
-        match (self.limit, other.limit) {
-            (Some(a), Some(b)) if a.number == b.number => a.strict || !b.strict,
-            (Some(a), Some(b)) => a.number < b.number,
-            (_, limit) => limit.is_none(),
-        }
+        self.limit <= other.limit
     }
 
     fn allows(self, difference: i64) -> bool {
-        self.limit.is_none_or(|c| c.allows(difference))
+        self.number().is_none_or(|c| c.allows(difference))
     }
 }
 
@@ -108,10 +149,14 @@ impl fmt::Display for MarkedNumber {
 }
 
 impl fmt::Display for MarkedBound {
+    ghost use Rattle.bounds.specs.MarkedKind.{marked_limit};
+    ghost use Rattle.bounds.specs.Texts.{limit_text};
+    ghost use Rattle.std.specs.Prelude.{Some};
+
     ghost output = { λ b. Some (limit_text (marked_limit b.limit)) };
 
     fn fmt<W: fmt::Write>(&self, f: &mut fmt::Formatter<W>) -> fmt::Result {
-        match self.limit {
+        match self.number() {
             Some(limit) => write!(f, "{limit}"),
             None => f.write_str(NO_LIMIT_TEXT),
         }

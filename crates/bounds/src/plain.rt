@@ -1,30 +1,48 @@
-//! Plain bounds: a whole number, or no limit.
-ghost use Rattle.bounds.specs.MarkedKind.{as_marked};
-ghost use Rattle.bounds.specs.PlainKind.{plain_kind, plain_limit};
+//! Plain bounds: a whole number, or no limit, in one word.
+ghost use Rattle.bounds.specs.Words.{capped_word, is_plain_word};
 ghost use Rattle.bounds.specs.Texts.{limit_text};
-ghost use Rattle.std.specs.Prelude.{◌≡◌, Some};
+ghost use Rattle.std.specs.Prelude.{◌≡◌, Some, IsTrue};
 
 use crate::bound::{Bound, NO_LIMIT_TEXT};
-use crate::capped::capped_sum;
 use crate::made::{MakeError, within_limits};
 use crate::marked::{MarkedBound, MarkedNumber};
+use crate::words::{LARGEST_SIZE, NO_LIMIT_WORD};
 use std::fmt;
 
 /// A bound that is never strict.
 #[derive(Clone, Copy, PartialEq, Eq, Debug)]
 pub struct PlainBound {
-    limit: Option<i64>,
+    /// the number, or the word that says no limit
+    limit: i64,
+    ghost held: { IsTrue (is_plain_word limit) },
+}
+
+/// The bound of a number; no limit where it is past the largest size.
+fn capped(number: i64) -> PlainBound
+    ensures { result.limit ≡ capped_word number }
+{
+    if -LARGEST_SIZE <= number && number <= LARGEST_SIZE {
+        PlainBound { limit: number }
+    } else {
+        PlainBound {
+            limit: NO_LIMIT_WORD,
+        }
+    }
 }
 
 impl Bound for PlainBound {
+    ghost use Rattle.bounds.specs.PlainKind.{plain_kind};
+
     ghost kind = { plain_kind };
 
     fn zero() -> PlainBound {
-        PlainBound { limit: Some(0) }
+        PlainBound { limit: 0 }
     }
 
     fn no_limit() -> PlainBound {
-        PlainBound { limit: None }
+        PlainBound {
+            limit: NO_LIMIT_WORD,
+        }
     }
 
     fn make(number: i32, strict: bool) -> Result<PlainBound, MakeError> {
@@ -32,52 +50,52 @@ impl Bound for PlainBound {
         if strict {
             return Err(MakeError::MarkNotTaken);
         }
-        Ok(PlainBound {
-            limit: Some(number),
-        })
+        Ok(capped(number))
     }
 
     fn sum(self, other: PlainBound) -> PlainBound {
-        let limit = self
-            .limit
-            .zip(other.limit)
-            .and_then(|(a, b)| capped_sum(a, b));
-        PlainBound { limit }
+        capped(self.limit + other.limit)
     }
 
     fn at_most(self, other: PlainBound) -> bool {
-        other
-            .limit
-            .is_none_or(|b| self.limit.is_some_and(|a| a <= b))
+        self.limit <= other.limit
     }
 
     fn allows(self, difference: i64) -> bool {
-        self.limit.is_none_or(|c| difference <= c)
+        LARGEST_SIZE < self.limit || difference <= self.limit
     }
 }
 
 /// The marked bound that allows the same.
 impl From<PlainBound> for MarkedBound {
+    ghost use Rattle.bounds.specs.MarkedKind.{as_marked};
+    ghost use Rattle.std.specs.Prelude.{◌≡◌};
+
     ghost from_gives = { λ b r. r ≡ as_marked b };
 
     fn from(bound: PlainBound) -> MarkedBound {
-        match bound.limit {
-            Some(number) => MarkedBound::limited(MarkedNumber {
-                number,
-                strict: false,
-            }),
-            None => MarkedBound::no_limit(),
+        if LARGEST_SIZE < bound.limit {
+            return MarkedBound::no_limit();
         }
+        MarkedBound::capped(MarkedNumber {
+            number: bound.limit,
+            strict: false,
+        })
     }
 }
 
 impl fmt::Display for PlainBound {
+    ghost use Rattle.bounds.specs.PlainKind.{plain_limit};
+    ghost use Rattle.bounds.specs.Texts.{limit_text};
+    ghost use Rattle.std.specs.Prelude.{Some};
+
     ghost output = { λ b. Some (limit_text (plain_limit b.limit)) };
 
     fn fmt<W: fmt::Write>(&self, f: &mut fmt::Formatter<W>) -> fmt::Result {
-        match self.limit {
-            Some(c) => write!(f, "{c}"),
-            None => f.write_str(NO_LIMIT_TEXT),
+        let limit = self.limit;
+        if LARGEST_SIZE < limit {
+            return f.write_str(NO_LIMIT_TEXT);
         }
+        write!(f, "{limit}")
     }
 }

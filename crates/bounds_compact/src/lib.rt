@@ -3,7 +3,7 @@
 
 ghost use Rattle.bounds.specs.Limits.{capped};
 ghost use Rattle.bounds.specs.Texts.{limit_text};
-ghost use Rattle.bounds.specs.MarkedKind.{marked_limit};
+ghost use Rattle.bounds.specs.Numbers.{numbered_limit};
 ghost use Rattle.bounds_compact.specs.CompactKind.{compact_kind, compact_limit, compact_of};
 ghost use Rattle.std.specs.Prelude.{◌≡◌, Some};
 
@@ -33,7 +33,7 @@ impl CompactBound {
 
     /// The number with its mark, unless there is no limit.
     fn limit(self) -> Option<MarkedNumber>
-        ensures { compact_limit self.raw ≡ marked_limit result }
+        ensures { compact_limit self.raw ≡ numbered_limit result }
     {
         let number = self.raw >> 1;
         let strict = self.raw % 2 == 0;

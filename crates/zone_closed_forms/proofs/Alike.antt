@@ -72,16 +72,16 @@ module _ {B : Type 0} (kind : Kind B) where
   closed_alike n x rows other h j k p q =
       framed_alike rows other j k _ _ (h.up j p) (h.low k q) (ap (lesser kind (x j k)) (by_clock_alike rows other j k (h.up j p) (h.low k q)))
 
-  kept_closed_alike : (x : Matrix B) (kept : List ℕ) (rows other : ClockRows B) (j k : ℕ) → rows.up j ≡ other.up j → rows.low k ≡ other.low k → kept_closed kind x kept rows j k ≡ kept_closed kind x kept other j k
+  pub kept_closed_alike : (x : Matrix B) (kept : List ℕ) (rows other : ClockRows B) (j k : ℕ) → rows.up j ≡ other.up j → rows.low k ≡ other.low k → kept_closed kind x kept rows j k ≡ kept_closed kind x kept other j k
   kept_closed_alike x kept rows other j k up low =
       framed_alike rows other j k _ _ up low
       (ap (λ way. cond (ltb j (length kept) && ltb k (length kept)) (lesser kind (x (get_or kept j 0) (get_or kept k 0)) way) way) (by_clock_alike rows other j k up low))
 
   module _ (n : ℕ) (kept : List ℕ) (arcs : List (Arc B)) (rows other : ClockRows B) (inside : (j : ℕ) → get_or kept j 0 < n) (h : Alike n rows other) where
-    up_spread : (j : ℕ) → (spread kind kept arcs rows).up j ≡ (spread kind kept arcs other).up j
+    pub up_spread : (j : ℕ) → (spread kind kept arcs rows).up j ≡ (spread kind kept arcs other).up j
     up_spread j = ap (λ b. cond (ltb j (length kept)) b (arc_at kind arcs (j - length kept)).range.upper) (h.up (get_or kept j 0) (inside j))
 
-    low_spread : (k : ℕ) → (spread kind kept arcs rows).low k ≡ (spread kind kept arcs other).low k
+    pub low_spread : (k : ℕ) → (spread kind kept arcs rows).low k ≡ (spread kind kept arcs other).low k
     low_spread k = ap (λ b. cond (ltb k (length kept)) b (arc_at kind arcs (k - length kept)).range.lower) (h.low (get_or kept k 0) (inside k))
 
   pub fired_alike : (t : Transition B) (matching : List ℕ) (z : Zone B) (rows other own : ClockRows B) → Alike (points z) rows other → Alike (points (fired_zone kind t matching z rows)) (spread kind (0 ∷ staying matching z) t.inputs other) own → FiringForm kind t matching z (fired_zone kind t matching z rows) → FiringForm kind t matching z (kept_zone kind z (staying matching z) t.inputs own)

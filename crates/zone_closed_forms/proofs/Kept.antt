@@ -12,7 +12,7 @@ use Rattle.zones.specs.Predecessors.{others, staying, places_at}
 use Rattle.zones.specs.Zones.{Zone, points}
 use Rattle.zone_cells.specs.Drafts.{largest_listed}
 use Rattle.zone_closed_forms.specs.ClockRows.{Alike}
-use Rattle.zone_closed_forms.specs.ClosedForms.{ClockRows, begun, by_clock, closed, kept_closed, kept_zone, delayed_rows, delayed_zone}
+use Rattle.zone_closed_forms.specs.ClosedForms.{ClockRows, begun, by_clock, closed, kept_closed, kept_zone, spread, delayed_rows, delayed_zone}
 use Rattle.zone_cells.specs.Drafts.{PageFormed}
 use Rattle.zone_closed_forms.specs.Laws.{DelayForm}
 use Rattle.zone_closed_forms.proofs.Alike.{closed_alike, framed_alike}
@@ -51,6 +51,14 @@ module _ {B : Type 0} (kind : Kind B) (z : Zone B) where
 
   kept_test : (j : ℕ) → j < points z → ltb j (length (0 ∷ staying [] z)) ≡ true
   kept_test j l = ap (ltb j) (ap suc (all_count 1 (length z.places))) ∙ lt-ltb j (points z) l
+
+  -- where all stay, rows of the page's points are the zone's own
+  pub spread_alike : (rows : ClockRows B) → Alike (points z) rows (spread kind (0 ∷ staying [] z) [] rows)
+  spread_alike rows =
+      record {
+        up = λ j l. sym (cond-true _ _ _ (kept_test j l) ∙ ap rows.up (kept_at j l));
+        low = λ k l. sym (cond-true _ _ _ (kept_test k l) ∙ ap rows.low (kept_at k l));
+      }
 
   module _ (own : ClockRows B) where
     all_kept : Same (points z) (kept_closed kind z.bound (0 ∷ staying [] z) own) (closed kind z.bound own)

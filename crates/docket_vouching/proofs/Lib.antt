@@ -1,0 +1,4 @@
+pub mod Arcs
+pub mod Zones
+pub mod Cells
+pub mod Means

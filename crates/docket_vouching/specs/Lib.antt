@@ -1,0 +1,4 @@
+pub mod Rows
+pub mod Own
+pub mod Asked
+pub mod Means

@@ -1,27 +1,18 @@
 -- The worked examples hold, over every kind.
-use Rattle.std.proofs.Common.{◌≡◌, ℕ, zero, suc, Bool, true, false, [], ◌∷◌, ℤ, pos, neg_ℤ, sym, refl, ap, ◌∙◌, subst, arith}
-use lib.Signed.{le_z}
-use Rattle.bounds.specs.Kinds.{Kind, Named, place}
+use Rattle.std.proofs.Common.{zero, suc, [], ◌∷◌, refl, arith}
+use Rattle.bounds.specs.Kinds.{Kind}
 use Rattle.bounds.specs.Limits.{Limit}
-use Rattle.bounds.specs.Limits.Limit.{number, unlimited}
-use Rattle.zone_walks.specs.Walks.{Matrix, lesser, counted, Still}
+use Rattle.bounds.specs.Limits.Limit.{unlimited}
+use Rattle.zone_walks.specs.Walks.{Matrix, counted, Still}
 use Rattle.zone_walks.proofs.Closed.{Same}
-use Rattle.zone_walks.proofs.Lessers.{lesser_is_left}
 use Rattle.zone_walks.proofs.NormalForms.{same_back}
-use Rattle.zone_walks.proofs.Sums.{zero_after}
 use Rattle.zones.specs.Predecessors.{narrowed, released, with_token, picked, FiringPredecessor}
-use Rattle.zones.specs.Zones.{Inconsistent}
-use Rattle.zone_examples.specs.WorkedExamples.{WorkedExamples, plus, minus, strictly, between, one_token, up_to_eight, one_to_six, up_to_six, same_age, same_age_form, puts_at_three, before_firing}
-use Rattle.zone_examples.proofs.Computed.{each, plain_named}
+use Rattle.zone_examples.specs.WorkedExamples.{WorkedExamples, between, up_to_eight, one_to_six, up_to_six, same_age, same_age_form, puts_at_three, before_firing}
+use Rattle.zone_examples.proofs.Computed.{each}
+use Rattle.zone_examples.proofs.Numbers.{none_is_26, strict_three_is_25, strict_two_is_taken, three_is_none, two_is_25, two_is_26}
+use Rattle.zone_examples.proofs.OneToken.{below_three, down, one_still, three_three_solved, two_three, up}
 use Rattle.zone_examples.proofs.Starts.{none_asked, two_at_most_two, two_below_two}
-use Rattle.zone_examples.proofs.Squares.{pair, square, pair_same, square_same, narrowed_limits, released_limits, with_token_limits, narrowed_same, released_same, with_token_same, Solved, solved}
-
--- the limits n and -n
-abbrev up : ℕ → Limit
-up n = number (pos n) false
-
-abbrev down : ℕ → Limit
-down n = number (neg_ℤ (pos n)) false
+use Rattle.zone_examples.proofs.Squares.{square, square_same, narrowed_limits, released_limits, with_token_limits, narrowed_same, released_same, with_token_same, Solved, solved}
 
 abbrev eight : Matrix Limit
 eight = square (up 0) (up 0) (up 8) (up 8) (up 8) (up 4)
@@ -98,58 +89,11 @@ module _ {B : Type 0} (kind : Kind B) where
   fired : FiringPredecessor kind (puts_at_three kind) (2 ∷ []) (same_age_form kind) (before_firing kind)
   fired = record { possible = three_solved.none; narrow = each kind both_three; narrows = three_solved.normal; places = refl; bounds = before_solved.normal }
 
-  -- ---- one token
-  three_three_solved : Solved kind 2 (counted kind (one_token kind 0 (plus kind 3) (minus kind 3)).bound) (one_token kind 0 (plus kind 3) (minus kind 3)).bound
-  three_three_solved =
-      let z = one_token kind 0 (plus kind 3) (minus kind 3) in
-      solved kind 2 z.bound z.bound (pair (down 3) (up 3)) (pair (down 3) (up 3)) (omega arith) (pair_same kind 0 (down 3) (up 3)) (same_back kind 2 z.bound (each kind (pair (down 3) (up 3))) (pair_same kind 0 (down 3) (up 3))) refl
-
-  low : Named kind.marks (neg_ℤ (pos 3)) false
-  low = plain_named kind (neg_ℤ (pos 3)) false refl
-
-  origin : Named kind.marks (pos 0) false
-  origin = plain_named kind (pos 0) false refl
-
-  at_least_three : lesser kind (minus kind 3) kind.zero ≡ minus kind 3
-  at_least_three =
-      lesser_is_left kind (minus kind 3) kind.zero (subst (λ b. kind.at_most (minus kind 3) b ≡ true) kind.number_zero (kind.numbers_order (neg_ℤ (pos 3)) (pos 0) false false low origin))
-
-  -- from the clock to the token and back; r is the sum
-  around : (c r : ℤ) (s : Bool) → Named kind.marks c s → Named kind.marks r s → kind.sum (minus kind 3) (kind.number c s) ≡ kind.number r s → le_z (place (pos 0) false) (place r s) ≡ false → Inconsistent kind (one_token kind 0 (kind.number c s) (minus kind 3))
-  around c r s upper total sum negative =
-      record {
-        at = 0;
-        point = omega arith;
-        legs = 1 ∷ 0 ∷ [];
-        closed = record { inside = (omega arith, (omega arith, tt)); few = omega arith; ends = refl };
-        below =
-            ap (λ b. kind.at_most kind.zero (kind.sum b (kind.sum (kind.number c s) kind.zero))) at_least_three
-            ∙ ap (λ b. kind.at_most kind.zero (kind.sum (minus kind 3) b)) (zero_after kind (kind.number c s) (omega (arith, kind.numbers_size c s upper, upper.small)))
-            ∙ ap (kind.at_most kind.zero) sum
-            ∙ ap (λ b. kind.at_most b (kind.number r s)) (sym kind.number_zero)
-            ∙ kind.numbers_order (pos 0) r false s origin total ∙ negative;
-      }
-
-  two_three : Inconsistent kind (one_token kind 0 (plus kind 2) (minus kind 3))
-  two_three =
-      let two = plain_named kind (pos 2) false refl in
-      around (pos 2) (neg_ℤ (pos 1)) false two (plain_named kind (neg_ℤ (pos 1)) false refl) (kind.numbers_sum (neg_ℤ (pos 3)) (pos 2) false false low two) refl
-
-  below_three : kind.marks ≡ true → Inconsistent kind (one_token kind 0 (strictly kind 3) (minus kind 3))
-  below_three m =
-      let three : Named kind.marks (pos 3) true = record { small = omega arith; takes = λ e. m } in
-      around (pos 3) (pos 0) true three (record { small = omega arith; takes = λ e. m }) (kind.numbers_sum (neg_ℤ (pos 3)) (pos 3) false true low three) refl
-
   two_still : Still kind 3 (up_to_eight kind).bound
   two_still zero p = refl
   two_still (suc zero) p = refl
   two_still (suc (suc zero)) p = refl
   two_still (suc (suc (suc j))) p = absurd (omega (arith, p))
-
-  one_still : Still kind 2 (one_token kind 0 (plus kind 3) (minus kind 3)).bound
-  one_still zero p = refl
-  one_still (suc zero) p = refl
-  one_still (suc (suc j)) p = absurd (omega (arith, p))
 
 pub worked_examples_hold : {B : Type 0} (kind : Kind B) → WorkedExamples kind
 worked_examples_hold kind =
@@ -168,4 +112,10 @@ worked_examples_hold kind =
       none_asked = none_asked kind;
       two_at_most_two = two_at_most_two kind;
       two_below_two = two_below_two kind;
+      two_is_25 = two_is_25 kind;
+      three_is_none = three_is_none kind;
+      strict_three_is_25 = strict_three_is_25 kind;
+      none_is_26 = none_is_26 kind;
+      two_is_26 = two_is_26 kind;
+      strict_two_is_taken = strict_two_is_taken kind;
     }

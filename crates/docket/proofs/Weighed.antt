@@ -1,5 +1,5 @@
 -- What weighing a voucher comes to, from what was read and what was made of the item; and a docket's call from that.
-use Rattle.std.proofs.Common.{◌≡◌, ℕ, Bool, true, false, cond, not, ◌||◌, eqb, List, ◌++◌, length, replicate, is_err, Ok, Err, Option, Result, sym, refl, ap, ◌∙◌, subst, inr}
+use Rattle.std.proofs.Common.{◌≡◌, ℕ, Bool, true, false, cond, not, eqb, List, ◌++◌, length, replicate, is_err, Ok, Err, Option, Result, sym, refl, ap, ◌∙◌, subst, inr}
 use Rattle.std.proofs.lemmas.Bool.{and_parts, both_ways, cond-false, eqb-true, true≢false}
 use Rattle.arrayvec.specs.ArrayVec.{ArrayVec}
 use Rattle.bounds.specs.Kinds.{Kind}

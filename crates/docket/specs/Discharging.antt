@@ -1,31 +1,10 @@
 -- What one voucher for one item comes to, once the stage and the lent memory are right.
 --     item      the first that is due
 --     draft     the scratch page with the zone that the item asks for
-use Rattle.std.specs.Prelude.{
-  ◌≡◌,
-  ℕ,
-  ◌+◌,
-  false,
-  if◌then◌else◌,
-  not,
-  ◌||◌,
-  List,
-  ◌++◌,
-  length,
-  Ok,
-  Err,
-  Result,
-  IsTrue,
-  Some,
-  None,
-  Option,
-  ◌==◌,
-  min,
-}
+use Rattle.std.specs.Prelude.{◌≡◌, ℕ, ◌+◌, false, if◌then◌else◌, not, List, ◌++◌, length, Ok, Err, Result, IsTrue, Some, None, Option, ◌==◌, min}
 use Rattle.arrayvec.specs.ArrayVec.{ArrayVec}
 use Rattle.zone_pages.specs.Objections.{objection_of}
 use Rattle.zone_pages.specs.declared.objections.Objection.{Objection}
-use Rattle.zone_pages.specs.declared.vouching.Asked.{Asked}
 use Rattle.bounds.specs.Kinds.{Kind}
 use Rattle.zone_cells.specs.Drafts.{draft_zone}
 use Rattle.zone_cells.specs.Sizes.{draft_cells}
@@ -82,10 +61,6 @@ voucher_read s bytes =
 abbrev pub objection_to : {B : Type 0} → Kind B → World B → Voucher → (asked : Zone B) →
     Result (Unit {0}) Objection
 objection_to kind w v asked = objection_of kind (page_of kind w v.zone) asked (pairing_of w.state v)
-
--- the zone in a draft that a page is to vouch for
-abbrev pub asked_zone : {B : Type 0} → Kind B → Asked B → Zone B
-asked_zone kind asked = draft_zone kind asked.places.now asked.cells.now
 
 abbrev pub objected : Result (Unit {0}) Objection → Answer
 objected (Ok u) = Ok tt

@@ -25,13 +25,6 @@ use Rattle.zones.specs.Zones.{Satisfies}
 abbrev pub world_over : {B : Type 0} → State → Book B → World B
 world_over s book = with_book s book.cells.now book.places.now
 
--- the older words, until no caller says them
-abbrev pub state_of : State → State
-state_of s = s
-
-abbrev pub world_of : {B : Type 0} → State → (cells : List B) → (places : List ℕ) → World B
-world_of s cells places = with_book s cells places
-
 -- so many items of a list, from a start on, are these
 abbrev pub with_part : {X : Type 0} → (start size : ℕ) → (items old : List X) → List X
 with_part start size items old = take start old ++ (items ++ drop (start + size) old)

@@ -18,15 +18,14 @@ use Rattle.bounds.specs.Kinds.{Kind}
 use Rattle.zone_cells.specs.Cells.{in_page, written}
 use Rattle.zone_cells.specs.Drafts.{PageFormed, draft_zone, page_zone}
 use Rattle.zone_cells.specs.Sizes.{draft_cells}
-use Rattle.zone_drafts.specs.Backwards.{DelayedBack, FiredBack}
+use Rattle.zone_drafts.specs.Backwards.{DelayedBack, FiringBack}
 use Rattle.zone_pages.specs.Books.{page_points}
-use Rattle.nets.specs.Nets.{Net, transition_of}
+use Rattle.nets.specs.Nets.{Net}
 use Rattle.zones.specs.Zones.{Zone}
 use Rattle.docket_dues.specs.Answered.{
   SameZone,
   ItemZone,
   VoidItem,
-  digits,
   places_of_all,
   zone_named,
 }
@@ -50,7 +49,7 @@ StepBack kind net page_places zero t n draft after answer =
 StepBack kind net page_places (suc zone) zero n draft after answer =
     (answer ≡ Some (copied page_places)) × DelayedBack kind page_places draft after
 StepBack kind net page_places (suc zone) (suc t) n draft after answer =
-    FiredBack kind (transition_of net (suc t)) (digits net (suc t) n) page_places draft after answer
+    FiringBack kind net (suc t) n page_places draft after answer
 
 -- ---- for an item that is due, and its page
 -- the page holds the zone, in the form that pages have

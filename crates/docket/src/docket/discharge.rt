@@ -3,7 +3,6 @@ ghost use Rattle.docket.specs.Discharging.{
   Advanced,
   Weighed,
   Works,
-  asked_zone,
   judged,
   objection_to,
   voucher_read,
@@ -14,6 +13,7 @@ ghost use Rattle.docket_rules.specs.Promise.{Promise};
 ghost use Rattle.docket_rules.specs.Tables.{partners_used};
 ghost use Rattle.docket_rules.specs.Worlds.{cells_at, in_list, lent, places_at};
 ghost use Rattle.std.specs.Prelude.{◌≡◌, ◌<◌, length, slice_index};
+ghost use Rattle.zone_cells.specs.Drafts.{draft_zone};
 
 use crate::docket::Docket;
 use crate::memory::is_whole;
@@ -84,7 +84,7 @@ impl Docket {
     ) -> Result<(), Objection>
         ensures { result ≡
             objection_to B.Bound.kind (world_over self.now book.now) voucher.now
-            (asked_zone B.Bound.kind asked.entry) }
+            (draft_zone B.Bound.kind asked.entry.places.now asked.entry.cells.now) }
     {
         let tokens = usize::from(self.token_count(voucher.zone));
         let claim = Claim {

@@ -1,4 +1,4 @@
-use Rattle.std.proofs.Common.{Option, sym, ap, ◌∙◌, subst, rules}
+use Rattle.std.proofs.Common.{sym, ap, ◌∙◌, subst, rules}
 use Rattle.std.specs.Option.{option_or}
 use Rattle.docket_dues.specs.Dues.{Leads}
 use Rattle.docket_items.specs.Next.{later_transition, later_zone}

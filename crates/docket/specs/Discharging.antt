@@ -1,7 +1,26 @@
 -- What one voucher for one item comes to, once the stage and the lent memory are right.
 --     item      the first that is due
 --     draft     the scratch page with the zone that the item asks for
-use Rattle.std.specs.Prelude.{◌≡◌, ℕ, ◌+◌, false, if◌then◌else◌, not, List, ◌++◌, length, Ok, Err, Result, IsTrue, Some, None, Option, ◌==◌, min}
+use Rattle.std.specs.Prelude.{
+  ◌≡◌,
+  ℕ,
+  ◌+◌,
+  false,
+  if◌then◌else◌,
+  not,
+  List,
+  ◌++◌,
+  length,
+  Ok,
+  Err,
+  Result,
+  IsTrue,
+  Some,
+  None,
+  Option,
+  ◌==◌,
+  min,
+}
 use Rattle.arrayvec.specs.ArrayVec.{ArrayVec}
 use Rattle.zone_pages.specs.Objections.{objection_of}
 use Rattle.zone_pages.specs.declared.objections.Objection.{Objection}

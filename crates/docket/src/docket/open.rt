@@ -112,7 +112,8 @@ impl Docket {
         target: &[u8],
     ) -> Result<(), CallRefusal>
         ensures answers { OpenAnswers B.Bound.kind (N.NetStore.net store.now)
-            (given initial.now ages.now) target.now (lent self.old cells.old places.old scratch.old) result }
+            (given initial.now ages.now) target.now
+            (lent self.old cells.old places.old scratch.old) result }
         ensures scratch { Left B.Bound.kind result scratch.old scratch.new }
         ensures refused { (r : Refused) → result ≡ Err r →
             with_book self.new cells.new places.new ≡ with_book self.old cells.old places.old }

@@ -9,7 +9,7 @@ use mathlib.Core.Bool.{Bool-set}
 use Rattle.bounds.specs.Kinds.{Kind, largest_size}
 use Rattle.bounds.specs.Limits.{Limit, limit_strict}
 use Rattle.bounds.specs.Limits.Limit.{number, unlimited}
-use Rattle.bounds.specs.Codings.{Coding, Held, coded_kind}
+use Rattle.bounds.specs.Codings.{Held, coded_kind}
 use Rattle.bounds.specs.Words.{no_limit_word, is_plain_word, capped_word, word_cases, capped_held}
 use Rattle.bounds.specs.declared.plain.PlainBound.{PlainBound}
 
@@ -36,44 +36,41 @@ same_plain a b e i =
           is_prop→PathP (λ i. IsTrue (is_plain_word (e i))) (λ i. Bool-set (is_plain_word (e i)) true) a.held b.held i;
     }
 
--- ---- each word stands for one limit, and each limit that is asked for has its word
-pub plain_back : (z : ℤ) → IsTrue (is_plain_word z) → plain_word (plain_limit z) ≡ z
-plain_back z h = ⊎_elim small past (word_cases z h)
+-- its facts are shown within it, so that an edit of what plain bounds mean is refused for its meaning
+abbrev pub plain_kind : Kind PlainBound
+plain_kind =
+    coded_kind (record {
+      marks = false;
+      view = λ b. plain_limit b.limit;
+      of = plain_of;
+      back = λ b. same_plain (plain_of (plain_limit b.limit)) b (back b.limit b.held);
+      reads = reads;
+      marked = λ b. marked b.limit;
+    })
   where
-    small : unsigned_abs z ≤ largest_size → plain_word (plain_limit z) ≡ z
-    small s =
+    small : (z : ℤ) → unsigned_abs z ≤ largest_size → plain_word (plain_limit z) ≡ z
+    small z s =
         let below : int_le z (pos largest_size) ≡ true = sym (omega (arith, ints)) in
         ap plain_word (cond-true (int_le z (pos largest_size)) (number z false) unlimited below)
         ∙ cond-true (nat_le (unsigned_abs z) largest_size) z no_limit_word (le-leb (unsigned_abs z) largest_size s)
 
-    past : z ≡ no_limit_word → plain_word (plain_limit z) ≡ z
-    past e = ap (λ y. plain_word (plain_limit y)) e ∙ sym e
+    past : (z : ℤ) → z ≡ no_limit_word → plain_word (plain_limit z) ≡ z
+    past z e = ap (λ y. plain_word (plain_limit y)) e ∙ sym e
 
-pub plain_reads : (l : Limit) → Held false l → plain_limit (plain_word l) ≡ l
-plain_reads (number c true) h = absurd (false≢true (h.takes refl))
-plain_reads (number c false) h =
-    let below : int_le c (pos largest_size) ≡ true = sym (omega (arith, ints, h.small)) in
-    ap plain_limit (cond-true (nat_le (unsigned_abs c) largest_size) c no_limit_word (le-leb (unsigned_abs c) largest_size h.small))
-    ∙ cond-true (int_le c (pos largest_size)) (number c false) unlimited below
-plain_reads unlimited h = refl
+    back : (z : ℤ) → IsTrue (is_plain_word z) → plain_word (plain_limit z) ≡ z
+    back z h = ⊎_elim (small z) (past z) (word_cases z h)
 
-pub plain_marked : (z : ℤ) → IsTrue (limit_strict (plain_limit z)) → IsTrue false
-plain_marked z = by_test (int_le z (pos largest_size))
-  where
-    by_test : (t : Bool) → IsTrue (limit_strict (if t then number z false else unlimited)) → IsTrue false
-    by_test true e = e
-    by_test false e = e
+    reads : (l : Limit) → Held false l → plain_limit (plain_word l) ≡ l
+    reads (number c true) h = absurd (false≢true (h.takes refl))
+    reads (number c false) h =
+        let below : int_le c (pos largest_size) ≡ true = sym (omega (arith, ints, h.small)) in
+        ap plain_limit (cond-true (nat_le (unsigned_abs c) largest_size) c no_limit_word (le-leb (unsigned_abs c) largest_size h.small))
+        ∙ cond-true (int_le c (pos largest_size)) (number c false) unlimited below
+    reads unlimited h = refl
 
-abbrev pub plain_coding : Coding PlainBound
-plain_coding =
-    record {
-      marks = false;
-      view = λ b. plain_limit b.limit;
-      of = plain_of;
-      back = λ b. same_plain (plain_of (plain_limit b.limit)) b (plain_back b.limit b.held);
-      reads = plain_reads;
-      marked = λ b. plain_marked b.limit;
-    }
+    unmarked : (z : ℤ) (t : Bool) → IsTrue (limit_strict (if t then number z false else unlimited)) → IsTrue false
+    unmarked z true e = e
+    unmarked z false e = e
 
-abbrev pub plain_kind : Kind PlainBound
-plain_kind = coded_kind plain_coding
+    marked : (z : ℤ) → IsTrue (limit_strict (plain_limit z)) → IsTrue false
+    marked z = unmarked z (int_le z (pos largest_size))

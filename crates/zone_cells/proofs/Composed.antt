@@ -12,6 +12,7 @@ use Rattle.zones.specs.Zones.{SizedZone}
 use Rattle.zones.proofs.Digits.{one_each}
 use Rattle.zone_cells.specs.Cells.{in_draft, times, matched_cells, picked_cells, input_cells, added_cells, delayed_cells, arc_at, column_least}
 use Rattle.zone_cells.specs.Drafts.{draft_zone, Workable, largest_listed, largest_predecessor}
+use Rattle.zone_cells.specs.Sizes.{draft_cells}
 use Rattle.zone_cells.specs.Settling.{Ready, Consistent}
 use Rattle.zone_cells.specs.Sifted.{sifted}
 use Rattle.zone_cells.proofs.Grid.{length_matched, length-picked, length-added}
@@ -105,7 +106,7 @@ module _ {B : Type 0} (kind : Kind B) (places : List ℕ) (cells : List B) (work
     pub firing_void : Negative kind (suc (length places)) (in_draft kind (matched_cells kind t.outputs ms cells)) → Void kind t ms (draft_zone kind places cells)
     firing_void negative = same_negative kind n (in_draft kind narrow_cells) (counted kind (narrowed_by kind t.outputs ms (in_draft kind cells))) narrow_counted negative
 
-    module _ (closed : List B) (whole : length closed ≡ 169) (consistent : Consistent kind (suc (length places)) (in_draft kind (matched_cells kind t.outputs ms cells)) (in_draft kind closed)) (count : ℕ) (kept : List ℕ) (listed : kept ≡ 0 ∷ sifted false ms 1 (length places)) (all : count ≡ length kept) where
+    module _ (closed : List B) (consistent : Consistent kind (suc (length places)) (in_draft kind (matched_cells kind t.outputs ms cells)) (in_draft kind closed)) where
       abbrev stay : List ℕ
       stay = staying ms (draft_zone kind places cells)
 
@@ -118,58 +119,71 @@ module _ {B : Type 0} (kind : Kind B) (places : List ℕ) (cells : List B) (work
       possible : Void kind t ms (draft_zone kind places cells) → ⊥
       possible v = consistent.none (same_negative kind n (counted kind (narrowed_by kind t.outputs ms (in_draft kind cells))) (in_draft kind narrow_cells) (same_back kind n (in_draft kind narrow_cells) (counted kind (narrowed_by kind t.outputs ms (in_draft kind cells))) narrow_counted) v)
 
-      count_is : count ≡ rows
-      count_is = all ∙ ap length listed ∙ ap (λ xs. suc (length xs)) (sifted-others ms 1 (length places))
-
-      kept_at : (j : ℕ) → j < rows → get_or kept j 0 ≡ get_or (0 ∷ stay) j 0
-      kept_at j l = ap (λ xs. get_or xs j 0) listed ∙ ap (λ xs. get_or (0 ∷ xs) j 0) (sifted-others ms 1 (length places))
-
       rows_few : rows ≤ 9
       rows_few = omega (arith, kept_few ms (length places), work.formed.few)
 
-      rising : Rising kept rows
-      rising =
-          let r = kept_rises ms (length places) (omega (arith, work.formed.few)) in
-          record {
-            from = λ j l. omega (arith, r.from j l, kept_at j l);
-            inside = λ j l. omega (arith, r.inside j l, kept_at j l);
-            rises = λ i j less l. let li : i < rows = omega (arith, less, l) in omega (arith, r.rises i j less l, kept_at j l, kept_at i li);
-          }
+      -- any cells that hold the bounds between the points that stay
+      module _ (off : List B) (whole : length off ≡ draft_cells) (first_stage : Same (suc (length (staying ms (draft_zone kind places cells)))) (in_draft kind off) (picked (0 ∷ staying ms (draft_zone kind places cells)) (in_draft kind closed))) where
+        abbrev stage : ℕ → List B
+        stage k = times k (λ a c. added_cells kind (arc_at kind t.inputs a).range (rows + a) c) off
 
-      abbrev stage : ℕ → List B
-      stage k = times k (λ a c. added_cells kind (arc_at kind t.inputs a).range (rows + a) c) (picked_cells kind kept rows closed)
+        stage_full : (k : ℕ) → length (stage k) ≡ draft_cells
+        stage_full zero = whole
+        stage_full (suc k) = length-added kind (arc_at kind t.inputs k).range (rows + k) (stage k) ∙ stage_full k
 
-      stage_full : (k : ℕ) → length (stage k) ≡ 169
-      stage_full zero = length-picked kind kept rows closed ∙ whole
-      stage_full (suc k) = length-added kind (arc_at kind t.inputs k).range (rows + k) (stage k) ∙ stage_full k
+        grown : Grown kind rows t.inputs (λ k. in_draft kind (stage k))
+        grown k l =
+            let range = (arc_at kind t.inputs k).range in
+            let m : rows + k < 13 = omega (arith, rows_few, l, limits.few_inputs) in
+            let some : 1 ≤ rows + k = omega arith in
+            record {
+              old = λ a b la lb. added_old kind range (rows + k) (stage k) m a b la lb;
+              row = λ b lb. added_row kind range (rows + k) (stage k) (stage_full k) some m b lb;
+              column = λ a la. added_column kind range (rows + k) (stage k) (stage_full k) some m a la;
+              still = added_self kind range (rows + k) (stage k) (stage_full k) m;
+            }
 
-      first_stage : Same rows (in_draft kind (stage 0)) (picked (0 ∷ stay) (in_draft kind closed))
-      first_stage j i lj li =
-          picked_is kind kept rows closed whole (omega (arith, rows_few)) rising j i lj li
-          ∙ ap (λ p. in_draft kind closed p (get_or kept i 0)) (kept_at j lj)
-          ∙ ap (λ p. in_draft kind closed (get_or (0 ∷ stay) j 0) p) (kept_at i li)
+        added : Added kind rows t.inputs (length t.inputs) (picked (0 ∷ stay) (in_draft kind closed)) (in_draft kind (stage (length t.inputs)))
+        added =
+            grown_added kind rows (2 ^ 26) net_places t.inputs (picked (0 ∷ stay) (in_draft kind closed)) (omega arith) (omega arith) (omega arith) limits.inputs (firing_picked kind t ms (draft_zone kind places cells) net_places work.formed.few work_good limits matched (in_draft kind closed) narrows possible) (λ k. in_draft kind (stage k)) first_stage grown
 
-      grown : Grown kind rows t.inputs (λ k. in_draft kind (stage k))
-      grown k l =
-          let range = (arc_at kind t.inputs k).range in
-          let m : rows + k < 13 = omega (arith, rows_few, l, limits.few_inputs) in
-          let some : 1 ≤ rows + k = omega arith in
-          record {
-            old = λ a b la lb. added_old kind range (rows + k) (stage k) m a b la lb;
-            row = λ b lb. added_row kind range (rows + k) (stage k) (stage_full k) some m b lb;
-            column = λ a la. added_column kind range (rows + k) (stage k) (stage_full k) some m a la;
-            still = added_self kind range (rows + k) (stage k) (stage_full k) m;
-          }
+        -- what stays, and the input arcs' tokens behind it
+        pub added_before : FiringPredecessor kind t ms (draft_zone kind places cells) (fired_back t ms (draft_zone kind places cells) (in_draft kind (input_cells kind t.inputs (suc (length (staying ms (draft_zone kind places cells)))) off)))
+        added_before = firing_predecessor kind t ms (draft_zone kind places cells) net_places work.formed.few work_good limits matched (in_draft kind closed) narrows possible (in_draft kind (stage (length t.inputs))) added
 
-      added : Added kind rows t.inputs (length t.inputs) (picked (0 ∷ stay) (in_draft kind closed)) (in_draft kind (stage (length t.inputs)))
-      added =
-          grown_added kind rows (2 ^ 26) net_places t.inputs (picked (0 ∷ stay) (in_draft kind closed)) (omega arith) (omega arith) (omega arith) limits.inputs (firing_picked kind t ms (draft_zone kind places cells) net_places work.formed.few work_good limits matched (in_draft kind closed) narrows possible) (λ k. in_draft kind (stage k)) first_stage grown
+        pub added_small : SizedZone kind largest_predecessor (fired_back t ms (draft_zone kind places cells) (in_draft kind (input_cells kind t.inputs (suc (length (staying ms (draft_zone kind places cells)))) off)))
+        added_small = (firing_good kind t ms (draft_zone kind places cells) net_places work.formed.few work_good limits matched (in_draft kind closed) narrows possible (in_draft kind (stage (length t.inputs))) added).sized
 
-      -- what stays, and the input arcs' tokens behind it
-      pub firing_before : FiringPredecessor kind t ms (draft_zone kind places cells) (fired_back t ms (draft_zone kind places cells) (in_draft kind (input_cells kind t.inputs count (picked_cells kind kept count closed))))
-      firing_before =
-          subst (λ m. FiringPredecessor kind t ms (draft_zone kind places cells) (fired_back t ms (draft_zone kind places cells) (in_draft kind (input_cells kind t.inputs m (picked_cells kind kept m closed))))) (sym count_is) (firing_predecessor kind t ms (draft_zone kind places cells) net_places work.formed.few work_good limits matched (in_draft kind closed) narrows possible (in_draft kind (stage (length t.inputs))) added)
+      -- the cells in which the rows and columns of the points that stay have closed up
+      module _ (whole : length closed ≡ draft_cells) (count : ℕ) (kept : List ℕ) (listed : kept ≡ 0 ∷ sifted false ms 1 (length places)) (all : count ≡ length kept) where
+        count_is : count ≡ rows
+        count_is = all ∙ ap length listed ∙ ap (λ xs. suc (length xs)) (sifted-others ms 1 (length places))
 
-      pub firing_small : SizedZone kind largest_predecessor (fired_back t ms (draft_zone kind places cells) (in_draft kind (input_cells kind t.inputs count (picked_cells kind kept count closed))))
-      firing_small =
-          subst (λ m. SizedZone kind largest_predecessor (fired_back t ms (draft_zone kind places cells) (in_draft kind (input_cells kind t.inputs m (picked_cells kind kept m closed))))) (sym count_is) (firing_good kind t ms (draft_zone kind places cells) net_places work.formed.few work_good limits matched (in_draft kind closed) narrows possible (in_draft kind (stage (length t.inputs))) added).sized
+        kept_at : (j : ℕ) → j < rows → get_or kept j 0 ≡ get_or (0 ∷ stay) j 0
+        kept_at j l = ap (λ xs. get_or xs j 0) listed ∙ ap (λ xs. get_or (0 ∷ xs) j 0) (sifted-others ms 1 (length places))
+
+        rising : Rising kept rows
+        rising =
+            let r = kept_rises ms (length places) (omega (arith, work.formed.few)) in
+            record {
+              from = λ j l. omega (arith, r.from j l, kept_at j l);
+              inside = λ j l. omega (arith, r.inside j l, kept_at j l);
+              rises = λ i j less l. let li : i < rows = omega (arith, less, l) in omega (arith, r.rises i j less l, kept_at j l, kept_at i li);
+            }
+
+        closed_up : Same rows (in_draft kind (picked_cells kind kept rows closed)) (picked (0 ∷ stay) (in_draft kind closed))
+        closed_up j i lj li =
+            picked_is kind kept rows closed whole (omega (arith, rows_few)) rising j i lj li
+            ∙ ap (λ p. in_draft kind closed p (get_or kept i 0)) (kept_at j lj)
+            ∙ ap (λ p. in_draft kind closed (get_or (0 ∷ stay) j 0) p) (kept_at i li)
+
+        full : length (picked_cells kind kept rows closed) ≡ draft_cells
+        full = length-picked kind kept rows closed ∙ whole
+
+        pub firing_before : FiringPredecessor kind t ms (draft_zone kind places cells) (fired_back t ms (draft_zone kind places cells) (in_draft kind (input_cells kind t.inputs count (picked_cells kind kept count closed))))
+        firing_before =
+            subst (λ m. FiringPredecessor kind t ms (draft_zone kind places cells) (fired_back t ms (draft_zone kind places cells) (in_draft kind (input_cells kind t.inputs m (picked_cells kind kept m closed))))) (sym count_is) (added_before (picked_cells kind kept rows closed) full closed_up)
+
+        pub firing_small : SizedZone kind largest_predecessor (fired_back t ms (draft_zone kind places cells) (in_draft kind (input_cells kind t.inputs count (picked_cells kind kept count closed))))
+        firing_small =
+            subst (λ m. SizedZone kind largest_predecessor (fired_back t ms (draft_zone kind places cells) (in_draft kind (input_cells kind t.inputs m (picked_cells kind kept m closed))))) (sym count_is) (added_small (picked_cells kind kept rows closed) full closed_up)

@@ -6,7 +6,7 @@ use lib.ListN.{length-map}
 use Rattle.std.proofs.lemmas.Bool.{cases_Bool, cases_lt, cases_eq, cond-true, cond-false, cond_both, eqb-true, eqb-false, eq-eqb, ne_eqb, lt-ltb, le-ltb, leb-true, and_parts, and_left, and_right, and_from, or_cases, or_parts, or_from, or_left, or_right, not-true, not_from_false, true≢false, false≢true}
 use Rattle.bounds.specs.Kinds.{Kind, place}
 use Rattle.bounds.specs.declared.range.Range.{Range}
-use Rattle.nets.specs.Nets.{Arc, Transition, Ended, RangeLimits, Every, ArcLimits, TransitionLimits, numbered}
+use Rattle.nets.specs.Nets.{Arc, ArcLimits, Ended, Every, RangeLimits, Transition, TransitionLimits, numbered}
 use Rattle.zone_walks.specs.Walks.{Matrix, lesser, counted, walk_sum, Negative, Reached, NormalForm, Sized, Still, Settled}
 use Rattle.zone_walks.specs.NormalForms.{most_points, largest_entry}
 use Rattle.zone_walks.proofs.Closed.{Closed, Below, Same, relaxed}
@@ -67,9 +67,12 @@ pub record AddedOne {B : Type 0} (kind : Kind B) (m : ℕ) (range : Range B) (x 
 abbrev pub Grown : {B : Type 0} → Kind B → ℕ → List (Arc B) → (ℕ → Matrix B) → Type 0
 Grown kind n arcs zs = (k : ℕ) → k < length arcs → AddedOne kind (n + k) (arc_at kind arcs k).range (zs k) (zs (suc k))
 
--- ---- the zone before a firing
+-- ---- the zone before a firing: some tokens are gone, and one is added for each of these arcs
+abbrev pub replaced_back : {B : Type 0} → List ℕ → List (Arc B) → Zone B → Matrix B → Zone B
+replaced_back gone ins z y = record { places = places_at (staying gone z) z ++ map (λ a. a.place) ins; bound = y }
+
 abbrev pub fired_back : {B : Type 0} → Transition B → List ℕ → Zone B → Matrix B → Zone B
-fired_back t matching z y = record { places = places_at (staying matching z) z ++ map (λ a. a.place) t.inputs; bound = y }
+fired_back t matching z y = replaced_back matching t.inputs z y
 
 stands_below : (places : List ℕ) (token at : ℕ) → stands places token at ≡ true → token < suc (length places)
 stands_below places token at h = omega (arith, leb-true token (length places) (and_parts (leb 1 token) _ (and_parts (leb 1 token && leb token (length places)) _ h).0).1)
@@ -738,23 +741,40 @@ module _ {B : Type 0} (kind : Kind B) where
             sized = λ j i a b. subst (λ c. kind.size c ≤ s + s) (sym (round_same j i a b)) (lesser_size kind (whole j i) (kind.sum (whole j 0) (whole 0 i)) (s + s) (omega (arith, whole_sized j i a b)) (omega (arith, kind.sum_size (whole j 0) (whole 0 i), whole_sized j 0 a (omega arith), whole_sized 0 i (omega arith) b)));
           }
 
-  -- ---- a firing
-  module _ (t : Transition B) (matching : List ℕ) (z : Zone B) (places : ℕ) (few : length z.places ≤ 8) (g : Good kind (points z) (2 ^ 22) z.bound) (limits : TransitionLimits kind places t) (matched : matches z.places t.outputs matching ≡ true) (narrow : Matrix B) (narrows : NormalForm kind (points z) (counted kind (narrowed_by kind t.outputs matching z.bound)) narrow) (possible : Void kind t matching z → ⊥) where
-    pub firing_narrow : Good kind (points z) (2 ^ 26) narrow
-    firing_narrow =
+  -- ---- a firing, by lists: some arcs narrow the tokens that digits name, some tokens go, and each of
+  -- other arcs adds one
+  module _ (z : Zone B) (places : ℕ) (few : length z.places ≤ 8) (g : Good kind (points z) (2 ^ 22) z.bound) (outs : List (Arc B)) (digits : List ℕ) (out_limits : Every (ArcLimits kind places) outs) (narrow : Matrix B) (narrows : NormalForm kind (points z) (counted kind (narrowed_by kind outs digits z.bound)) narrow) (possible : Negative kind (points z) (counted kind (narrowed_by kind outs digits z.bound)) → ⊥) where
+    pub narrowing_good : Good kind (points z) (2 ^ 26) narrow
+    narrowing_good =
         good_more (points z) (points z * 2 ^ 22) (2 ^ 26) narrow (omega arith)
-        (narrow_good (points z) (2 ^ 22) places t.outputs matching z.bound narrow (omega arith) (omega arith) (omega arith) (omega arith) limits.outputs g narrows possible)
+        (narrow_good (points z) (2 ^ 22) places outs digits z.bound narrow (omega arith) (omega arith) (omega arith) (omega arith) out_limits g narrows possible)
 
+    module _ (gone : List ℕ) (ins : List (Arc B)) (in_limits : Every (ArcLimits kind places) ins) (few_ins : length ins ≤ 4) where
+      pub staying_good : Good kind (suc (length (staying gone z))) (2 ^ 26) (picked (0 ∷ staying gone z) narrow)
+      staying_good = picked_good (points z) (suc (length (staying gone z))) (2 ^ 26) (0 ∷ staying gone z) narrow (λ j h. staying_inside gone z j) refl narrowing_good
+
+      replaced_few : suc (length (staying gone z)) + length ins ≤ most_points
+      replaced_few = omega (arith, staying_few gone z, few_ins)
+
+      module _ (y : Matrix B) (added : Added kind (suc (length (staying gone z))) ins (length ins) (picked (0 ∷ staying gone z) narrow) y) where
+        replaced_points : suc (length (staying gone z)) + length ins ≡ points (replaced_back gone ins z y)
+        replaced_points = omega (arith, length-append (places_at (staying gone z) z) (map (λ a. a.place) ins), length-map (staying gone z) (λ i. numbered z.places i 0), length-map ins (λ a. a.place))
+
+        pub replaced_normal : NormalForm kind (points (replaced_back gone ins z y)) (counted kind (with_tokens kind (suc (length (staying gone z))) ins (picked (0 ∷ staying gone z) narrow))) y
+        replaced_normal =
+            subst (λ p. NormalForm kind p (counted kind (with_tokens kind (suc (length (staying gone z))) ins (picked (0 ∷ staying gone z) narrow))) y) replaced_points (added_normal (suc (length (staying gone z))) (2 ^ 26) places ins (picked (0 ∷ staying gone z) narrow) (omega arith) (omega arith) (omega arith) in_limits staying_good replaced_few y added)
+
+        pub replaced_good : Good kind (points (replaced_back gone ins z y)) (2 ^ 27) y
+        replaced_good =
+            subst (λ p. Good kind p (2 ^ 27) y) replaced_points
+            (good_more _ (2 ^ 26 + 2 ^ 26) (2 ^ 27) y (omega arith) (added_good (suc (length (staying gone z))) (2 ^ 26) places ins (picked (0 ∷ staying gone z) narrow) (omega arith) (omega arith) (omega arith) in_limits staying_good replaced_few y added))
+
+  -- ---- a firing of a transition
+  module _ (t : Transition B) (matching : List ℕ) (z : Zone B) (places : ℕ) (few : length z.places ≤ 8) (g : Good kind (points z) (2 ^ 22) z.bound) (limits : TransitionLimits kind places t) (matched : matches z.places t.outputs matching ≡ true) (narrow : Matrix B) (narrows : NormalForm kind (points z) (counted kind (narrowed_by kind t.outputs matching z.bound)) narrow) (possible : Void kind t matching z → ⊥) where
     pub firing_picked : Good kind (suc (length (staying matching z))) (2 ^ 26) (picked (0 ∷ staying matching z) narrow)
-    firing_picked = picked_good (points z) (suc (length (staying matching z))) (2 ^ 26) (0 ∷ staying matching z) narrow (λ j h. staying_inside matching z j) refl firing_narrow
-
-    firing_few : suc (length (staying matching z)) + length t.inputs ≤ most_points
-    firing_few = omega (arith, staying_few matching z, limits.few_inputs)
+    firing_picked = staying_good z places few g t.outputs matching limits.outputs narrow narrows possible matching t.inputs limits.inputs limits.few_inputs
 
     module _ (y : Matrix B) (added : Added kind (suc (length (staying matching z))) t.inputs (length t.inputs) (picked (0 ∷ staying matching z) narrow) y) where
-      pub firing_points : suc (length (staying matching z)) + length t.inputs ≡ points (fired_back t matching z y)
-      firing_points = omega (arith, length-append (places_at (staying matching z) z) (map (λ a. a.place) t.inputs), length-map (staying matching z) (λ i. numbered z.places i 0), length-map t.inputs (λ a. a.place))
-
       pub firing_predecessor : FiringPredecessor kind t matching z (fired_back t matching z y)
       firing_predecessor =
           record {
@@ -762,10 +782,8 @@ module _ {B : Type 0} (kind : Kind B) where
             narrow = narrow;
             narrows = narrows;
             places = refl;
-            bounds = subst (λ p. NormalForm kind p (counted kind (with_tokens kind (suc (length (staying matching z))) t.inputs (picked (0 ∷ staying matching z) narrow))) y) firing_points (added_normal (suc (length (staying matching z))) (2 ^ 26) places t.inputs (picked (0 ∷ staying matching z) narrow) (omega arith) (omega arith) (omega arith) limits.inputs firing_picked firing_few y added);
+            bounds = replaced_normal z places few g t.outputs matching limits.outputs narrow narrows possible matching t.inputs limits.inputs limits.few_inputs y added;
           }
 
       pub firing_good : Good kind (points (fired_back t matching z y)) (2 ^ 27) y
-      firing_good =
-          subst (λ p. Good kind p (2 ^ 27) y) firing_points
-          (good_more _ (2 ^ 26 + 2 ^ 26) (2 ^ 27) y (omega arith) (added_good (suc (length (staying matching z))) (2 ^ 26) places t.inputs (picked (0 ∷ staying matching z) narrow) (omega arith) (omega arith) (omega arith) limits.inputs firing_picked firing_few y added))
+      firing_good = replaced_good z places few g t.outputs matching limits.outputs narrow narrows possible matching t.inputs limits.inputs limits.few_inputs y added

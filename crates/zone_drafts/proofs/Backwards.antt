@@ -61,8 +61,8 @@ module _ {B : Type 0} (kind : Kind B) where
           kept = ap length same ∙ length_inputs kind t.inputs count (picked_cells kind kept count closed) ∙ length-picked kind kept count closed;
           answered = λ before work matched whole consistent.
               subst₂ (λ c ps. Predecessor kind t ms (draft_zone kind places before) c ps) (sym same) (sym tokens) (record {
-                is = firing_before kind places before work t net_places limits ms matched closed whole consistent count kept listed all;
-                small = firing_small kind places before work t net_places limits ms matched closed whole consistent count kept listed all;
+                is = firing_before kind places before work t net_places limits ms matched closed consistent whole count kept listed all;
+                small = firing_small kind places before work t net_places limits ms matched closed consistent whole count kept listed all;
               });
         }
 

@@ -1,6 +1,6 @@
 -- What stands against a page's vouching for a zone, the lowest number first, and what it means that
 -- nothing does.
-use Rattle.std.specs.Prelude.{◌≡◌, ℕ, cond, List, Ok, Err, Result, codes, if◌then◌else◌}
+use Rattle.std.specs.Prelude.{◌≡◌, ℕ, List, Ok, Err, Result, codes, if◌then◌else◌}
 use Rattle.bounds.specs.Kinds.{Kind}
 use Rattle.zone_pages.specs.Comparison.{partners_unsound, places_differ, bound_exceeds}
 use Rattle.zone_cells.specs.Drafts.{draft_zone, page_zone}

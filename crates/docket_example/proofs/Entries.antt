@@ -13,11 +13,10 @@ use Rattle.docket_example.specs.declared.checking.Entry.TheVariants.{Opening as 
 use Rattle.docket_example.specs.declared.checking.Refused.{Refused}
 use Rattle.docket_example.specs.declared.checking.Verdict.TheVariants.{Sealed, StillDue}
 use Rattle.nets.specs.Nets.{Net}
-use Rattle.docket_rules.proofs.Reaching.{reached_blank, reached_kept, reached_step}
 use Rattle.docket_rules.specs.Calls.{Closes, Left, Opens, Posts, Discharges, Step, is_early, next_due_of}
 use Rattle.docket_rules.specs.Logs.{Log, no_log, proving_stage, still_due, with_call}
-use Rattle.docket_rules.specs.Promise.{Kept, Promise}
-use Rattle.docket_rules.specs.Reached.{ReachedByCalls}
+use Rattle.docket_rules.specs.Promise.{Kept}
+use Rattle.docket_rules.specs.Reached.{CallLaws, ReachedByCalls}
 use Rattle.docket_rules.specs.Tables.{Answer, is_listing}
 use Rattle.docket_rules.specs.Worlds.{State, World, blank, book_cells, book_places, with_book, with_scratch}
 use Rattle.zones.specs.Safety.{Safe, starts_at}
@@ -50,42 +49,42 @@ module _ (net : Net PlainBound) (c : Certificate) where
   discharge_step n w s lent left answer e h = (left, subst (λ l. Discharges plain_kind net (get_or c.vouchers.now n []) (with_scratch w l) s left answer) e h, record { cells = refl; places = refl })
 
   -- ---- where a step leads
-  pub begun : (s : State) (x : PlainBound) → s ≡ blank → EntryStands net no_log (record { state = s; cells = replicate book_cells x; places = replicate book_places 0 })
-  begun s x is =
+  pub begun : CallLaws plain_kind net → (s : State) (x : PlainBound) → s ≡ blank → EntryStands net no_log (record { state = s; cells = replicate book_cells x; places = replicate book_places 0 })
+  begun laws s x is =
       let book = replicate {A = ℕ} book_places 0 in
       record {
-        reached = subst (λ s. ReachedByCalls plain_kind net no_log (record { state = s; cells = replicate book_cells x; places = book })) (sym is) (reached_blank plain_kind net (replicate book_cells x) book);
+        reached = subst (λ s. ReachedByCalls plain_kind net no_log (record { state = s; cells = replicate book_cells x; places = book })) (sym is) (laws.start (replicate book_cells x) book);
         cells = length-replicate book_cells x;
         places = length-replicate {A = ℕ} book_places 0;
       }
 
   -- an entry that is taken
-  pub gone_on : (e : Entry) (w v : World PlainBound) (answer : Answer) (u : Unit {0}) → Ok u ≡ at_entry e answer → length v.cells ≡ length w.cells → length v.places ≡ length w.places → EntryStands net (log_before c e) w → Step plain_kind net w (call_for c e answer) v → EntryStands net (with_call plain_kind (log_before c e) (call_for c e (Ok tt))) v
-  gone_on e w v (Ok u) u' is full whole s step =
+  pub gone_on : CallLaws plain_kind net → (e : Entry) (w v : World PlainBound) (answer : Answer) (u : Unit {0}) → Ok u ≡ at_entry e answer → length v.cells ≡ length w.cells → length v.places ≡ length w.places → EntryStands net (log_before c e) w → Step plain_kind net w (call_for c e answer) v → EntryStands net (with_call plain_kind (log_before c e) (call_for c e (Ok tt))) v
+  gone_on laws e w v (Ok u) u' is full whole s step =
       record {
-        reached = reached_step plain_kind net (log_before c e) w v (call_for c e (Ok tt)) s.reached step;
+        reached = laws.more (log_before c e) w v (call_for c e (Ok tt)) s.reached step;
         cells = full ∙ s.cells;
         places = whole ∙ s.places;
       }
-  gone_on e w v (Err r) u' is full whole s step = absurd (false≢true (ap is_err is))
+  gone_on laws e w v (Err r) u' is full whole s step = absurd (false≢true (ap is_err is))
 
   -- an entry that is refused
-  pub stopped : Promise plain_kind net → (e : Entry) (w v : World PlainBound) (answer : Answer) (x : Refused) → MayBeRefused c e → Err x ≡ at_entry e answer → EntryStands net (log_before c e) w → Step plain_kind net w (call_for c e answer) v → Stopped net c x
-  stopped promise e w v (Ok u) x may is s step = absurd (true≢false (ap is_err is))
-  stopped promise e w v (Err r) x may is s step =
+  pub stopped : CallLaws plain_kind net → (e : Entry) (w v : World PlainBound) (answer : Answer) (x : Refused) → MayBeRefused c e → Err x ≡ at_entry e answer → EntryStands net (log_before c e) w → Step plain_kind net w (call_for c e answer) v → Stopped net c x
+  stopped laws e w v (Ok u) x may is s step = absurd (true≢false (ap is_err is))
+  stopped laws e w v (Err r) x may is s step =
       subst (Stopped net c) (sym (ap (refused_or x) is))
       (record {
         may = may;
         world = w;
         stands = s;
-        rule = (reached_kept plain_kind net (log_before c e) w promise s.reached).exact (call_for c e (Err r)) v step;
+        rule = (laws.kept (log_before c e) w s.reached).exact (call_for c e (Err r)) v step;
       })
 
   -- the end of the list, which is taken after an opening
-  pub end_taken : {X : Type 0} → Promise plain_kind net → (n : ℕ) (w v : World PlainBound) (answer : Answer) (x : Refused) → Err x ≡ at_entry ListEnd answer → EntryStands net (listing c n) w → Closes w.state v.state answer → X
-  end_taken promise n w v (Ok u) x is s closes = absurd (true≢false (ap is_err is))
-  end_taken promise n w v (Err r) x is s closes =
-      let listed : is_listing w.state.stage ≡ true = ap (λ t. is_listing t.stage) (reached_kept plain_kind net (listing c n) w promise s.reached).state in
+  pub end_taken : {X : Type 0} → CallLaws plain_kind net → (n : ℕ) (w v : World PlainBound) (answer : Answer) (x : Refused) → Err x ≡ at_entry ListEnd answer → EntryStands net (listing c n) w → Closes w.state v.state answer → X
+  end_taken laws n w v (Ok u) x is s closes = absurd (true≢false (ap is_err is))
+  end_taken laws n w v (Err r) x is s closes =
+      let listed : is_listing w.state.stage ≡ true = ap (λ t. is_listing t.stage) (laws.kept (listing c n) w s.reached).state in
       ⊎_elim (λ p. absurd (true≢false (sym listed ∙ p.0))) (λ p. absurd (true≢false (ap is_err p.1))) closes.answers
 
   -- ---- what the entries up to one have given
@@ -107,12 +106,12 @@ module _ (net : Net PlainBound) (c : Certificate) where
   said_sealed [] e = refl
   said_sealed (i ∷ items) e = absurd (false≢true (ap is_some e))
 
-  module _ (promise : Promise plain_kind net) (w : World PlainBound) (s : EntryStands net (proving c (length c.vouchers.now)) w) where
+  module _ (laws : CallLaws plain_kind net) (w : World PlainBound) (s : EntryStands net (proving c (length c.vouchers.now)) w) where
     abbrev ended : Log PlainBound
     ended = proving c (length c.vouchers.now)
 
     kept : Kept plain_kind net ended w
-    kept = reached_kept plain_kind net ended w promise s.reached
+    kept = laws.kept ended w s.reached
 
     stage : w.state.stage ≡ proving_stage (still_due net ended)
     stage = ap (λ t. t.stage) kept.state

@@ -2,25 +2,7 @@
 -- call for each.
 --     entry     the opening, a listed zone, the end of the list, or a voucher
 --     log       what the calls that were taken have given
-use Rattle.std.specs.Prelude.{
-  ◌≡◌,
-  ℕ,
-  ◌<◌,
-  true,
-  false,
-  List,
-  [],
-  ◌∷◌,
-  map,
-  length,
-  take,
-  replicate,
-  Ok,
-  Err,
-  Some,
-  Result,
-  slice_index_or,
-}
+use Rattle.std.specs.Prelude.{◌≡◌, ℕ, ◌<◌, true, List, [], ◌∷◌, map, length, take, replicate, Ok, Err, Some, Result, slice_index_or}
 use Rattle.net_handover.specs.HandoverNet.{handover_net}
 use Rattle.net_handover.specs.declared.Handover.{Handover}
 use Rattle.nets.specs.Markings.{Marking}

@@ -15,7 +15,7 @@ use bounds::{Bound, PlainBound};
 use docket::{BOOK_CELLS, BOOK_PLACES, Docket};
 use docket_dues::Item;
 use docket_refusals::CallRefusal;
-use docket_rules::seals_keep_promises;
+use docket_rules::calls_keep_laws;
 use net_handover::Handover;
 use nets::NetStore;
 use zone_drafts::draft::DRAFT_CELLS;
@@ -65,9 +65,9 @@ pub fn check(line: &Handover, certificate: &Certificate<'_>) -> Result<Verdict, 
         (target_of certificate.now) }
     ensures exact { Checked (line_net line.now) certificate.now result }
 {
-    // These two do nothing: what they ensure is what a docket promises over this store.
+    // These two do nothing: what they ensure is what calls on a docket come to over this store.
     line.keeps_limits();
-    seals_keep_promises::<PlainBound>();
+    calls_keep_laws::<PlainBound>();
     let mut docket = Docket::new();
     let mut cells = [PlainBound::no_limit(); BOOK_CELLS];
     let mut book = [0; BOOK_PLACES];

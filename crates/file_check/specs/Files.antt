@@ -1,5 +1,6 @@
 -- A file as it stands between two steps, and what one step comes to.
-use Rattle.std.specs.Prelude.{◌≡◌, ℕ, ◌<◌, ◌≤◌, List, length, take, Ok, Err, Result, Some, None, Option}
+use Rattle.std.specs.Prelude.{◌≡◌, ℕ, ◌<◌, ◌≤◌, List, length, take, Ok, Err, Result, Some, None}
+use Rattle.std.specs.Prelude.{Option}
 use Rattle.bounds.specs.Kinds.{Kind}
 use Rattle.docket_records.specs.Records.{zone_size}
 use Rattle.docket_records.specs.declared.fault.EntryRefusal.{EntryRefusal}
@@ -46,14 +47,16 @@ abbrev pub read_at : {X : Type 0} → (at : ℕ) → Result X EntryRefusal → R
 read_at at (Ok x) = Ok x
 read_at at (Err refusal) = Err (record { refusal = InCall (Entry refusal); at = at })
 
-pub record Reads {B X : Type 0} (size : ℕ) (said : List ℕ → Result X EntryRefusal) (before : Filed B) (answer : Result X FileFault) (after : Filed B) : Type 0 where
+pub record Reads {B X : Type 0} (size : ℕ) (said : List ℕ →
+    Result X EntryRefusal) (before : Filed B) (answer : Result X FileFault) (after : Filed B) : Type 0 where
   pub read : answer ≡ read_at before.unread.next (said (take size before.unread.rest))
   pub left : after.unread ≡ asked size before.unread
   pub moved : Moved size before.unread answer after.unread
   pub waits : Waits before after
 
 -- a record of this size with its number, or that it is cut short, and then nothing moves
-abbrev pub PartTaken : (size : ℕ) → (before : Unread) → Result Part FileFault → (after : Unread) → Type 0
+abbrev pub PartTaken : (size : ℕ) → (before : Unread) → Result Part FileFault → (after : Unread) →
+    Type 0
 PartTaken size before (Ok part) after =
     (size ≤ length before.rest) × (part.bytes.now ≡ take size before.rest) × (part.at ≡ before.next)
     × (after ≡ past size before)
@@ -69,14 +72,19 @@ filed at (Ok u) = Ok tt
 filed at (Err r) = Err (record { refusal = InCall r; at = at })
 
 -- the call that a record asks for is made, or the record is refused before it
-abbrev pub AskMade : {B : Type 0} → Kind B → Net B → World B → Ask B → World B → Result (Unit {0}) FileFault → Type 0
+abbrev pub AskMade : {B : Type 0} → Kind B → Net B → World B → Ask B → World B →
+    Result (Unit {0}) FileFault → Type 0
 AskMade kind net w (Read said) v answer = ⊥
 AskMade kind net w (Refuse at refusal) v (Ok u) = ⊥
 AskMade kind net w (Refuse at refusal) v (Err fault) =
     (fault ≡ record { refusal = InCall (Entry refusal); at = at }) × (v ≡ w)
 AskMade kind net w (Make at call) v (Ok u) = Step kind net w (call (Ok tt)) v
 AskMade kind net w (Make at call) v (Err fault) =
-    (r : CallRefusal) × Step kind net w (call (Err r)) v × (fault ≡ record { refusal = InCall r; at = at })
+    (r : CallRefusal) × Step kind net w (call (Err r)) v × (fault ≡ record {
+      refusal =
+          InCall r;
+      at = at;
+    })
 
 pub record Called {B : Type 0} (kind : Kind B) (ask : Ask B) (before : Filed B) (answer : Result (Unit {0}) FileFault) (after : Filed B) : Type 0 where
   pub made : AskMade kind before.net before.world ask after.world answer

@@ -6,7 +6,8 @@ ghost use Rattle.docket_records.specs.Records.{header_size, token_size, voucher_
 ghost use Rattle.docket_rules.specs.Calls.{Close, Discharge, next_due_of};
 ghost use Rattle.docket_rules.specs.Tables.{partners_used};
 ghost use Rattle.docket_rules.specs.Worlds.{cells_at, listed_count, places_at};
-ghost use Rattle.file_check.specs.Files.{Called, IsLine, PartTaken, Reads, Waits, beginning, filed, opening_ask};
+ghost use Rattle.file_check.specs.Files.{Called, IsLine, PartTaken, Reads, Waits, beginning, filed};
+ghost use Rattle.file_check.specs.Files.{opening_ask};
 ghost use Rattle.file_rules.specs.Asks.{Make, scratch_page, zone_ask};
 ghost use Rattle.net_records.specs.Parts.{Moved};
 ghost use Rattle.std.specs.Prelude.{◌≡◌, ◌==◌, ◌<◌, length};

@@ -1,13 +1,15 @@
 // The walk over a file, record by record, with a watcher who hears of each.
 ghost use Rattle.docket_records.specs.DocketRecords.{docket_header_of, token_of};
 ghost use Rattle.docket_records.specs.Records.{header_size, token_size, voucher_size, zone_size};
-ghost use Rattle.docket_rules.specs.Calls.{Close};
-ghost use Rattle.file_check.specs.Files.{IsClosed, opening_ask};
-ghost use Rattle.file_check.specs.Walks.{AsGiven, Comes, Passes, Tells, read_tokens};
-ghost use Rattle.file_rules.specs.Asks.{Ask, Make, docket_asked, header_ask, marking_asked, proving_asked, token_ask, tokens_asked, voucher_ask, voucher_count, vouchers_asked, zone_ask, zones_asked};
-ghost use Rattle.file_rules.specs.Reports.{Runs};
+ghost use Rattle.file_check.specs.Files.{IsClosed};
+ghost use Rattle.file_check.specs.Walks.{AsGiven, Comes, Hears, HearsAll, HearsTokens, RunsAll};
+ghost use Rattle.file_check.specs.Walks.{TellsAll, read_tokens};
+ghost use Rattle.file_check.specs.Walks.{close_next, docket_next, header_next, marking_next};
+ghost use Rattle.file_check.specs.Walks.{nothing_next, proving_next};
+ghost use Rattle.file_check.specs.Walks.{target_next, token_next, voucher_next, vouchers_next};
+ghost use Rattle.file_check.specs.Walks.{zone_next, zones_next};
 ghost use Rattle.net_records.specs.Parts.{Moved};
-ghost use Rattle.std.specs.Prelude.{take, ◌≡◌, ◌<◌, ◌∷◌, ◌++◌, [], List, IfOk, OnOk};
+ghost use Rattle.std.specs.Prelude.{take, ◌≡◌, ◌<◌, IfOk, OnOk};
 
 use crate::file::DocketFile;
 use crate::initial::InitialLists;
@@ -23,10 +25,8 @@ impl<'a, 'm, B: Bound> DocketFile<'a, 'm, B> {
         &mut self,
         watcher: &mut W,
     ) -> Result<DocketHeader, Ended<W::Stop>>
-        ensures told { (later : List (Ask B)) →
-            Passes W.Watcher.words B.Bound.kind self.old
-            (header_ask self.old.unread.next self.old.unread.rest ∷ later) (W.Watcher.said watcher.old)
-            self.new later (W.Watcher.said watcher.new) result }
+        ensures told { Hears W.Watcher.words B.Bound.kind header_next self.old
+            (W.Watcher.said watcher.old) self.new (W.Watcher.said watcher.new) result }
         ensures moved { Moved header_size self.old.unread result self.new.unread }
         ensures header { IfOk result (λ h. h ≡ docket_header_of (take header_size self.old.unread.rest)) }
     {
@@ -40,10 +40,8 @@ impl<'a, 'm, B: Bound> DocketFile<'a, 'm, B> {
         watcher: &mut W,
         number: u8,
     ) -> Result<InitialToken, Ended<W::Stop>>
-        ensures told { (later : List (Ask B)) →
-            Passes W.Watcher.words B.Bound.kind self.old
-            (token_ask number self.old.unread.next self.old.unread.rest ∷ later) (W.Watcher.said watcher.old)
-            self.new later (W.Watcher.said watcher.new) result }
+        ensures told { Hears W.Watcher.words B.Bound.kind (token_next number) self.old
+            (W.Watcher.said watcher.old) self.new (W.Watcher.said watcher.new) result }
         ensures moved { Moved token_size self.old.unread result self.new.unread }
         ensures token { IfOk result (λ t. t ≡ token_of (take token_size self.old.unread.rest)) }
     {
@@ -59,10 +57,8 @@ impl<'a, 'm, B: Bound> DocketFile<'a, 'm, B> {
         watcher: &mut W,
         initial: &InitialLists,
     ) -> Result<(), Ended<W::Stop>>
-        ensures told { (later : List (Ask B)) →
-            Passes W.Watcher.words B.Bound.kind self.old
-            (opening_ask B.Bound.kind initial.now self.old.unread ∷ later) (W.Watcher.said watcher.old)
-            self.new later (W.Watcher.said watcher.new) result }
+        ensures told { Hears W.Watcher.words B.Bound.kind (target_next initial.now) self.old
+            (W.Watcher.said watcher.old) self.new (W.Watcher.said watcher.new) result }
         ensures moved { Moved zone_size self.old.unread result self.new.unread }
     {
         self.target(initial)?;
@@ -70,10 +66,8 @@ impl<'a, 'm, B: Bound> DocketFile<'a, 'm, B> {
     }
 
     fn told_zone<W: Watcher<B>>(&mut self, watcher: &mut W) -> Result<(), Ended<W::Stop>>
-        ensures told { (later : List (Ask B)) →
-            Passes W.Watcher.words B.Bound.kind self.old
-            (zone_ask B.Bound.kind self.old.unread.next self.old.unread.rest ∷ later) (W.Watcher.said watcher.old)
-            self.new later (W.Watcher.said watcher.new) result }
+        ensures told { Hears W.Watcher.words B.Bound.kind zone_next self.old
+            (W.Watcher.said watcher.old) self.new (W.Watcher.said watcher.new) result }
         ensures moved { Moved zone_size self.old.unread result self.new.unread }
     {
         self.zone()?;
@@ -82,10 +76,8 @@ impl<'a, 'm, B: Bound> DocketFile<'a, 'm, B> {
 
     // The watcher hears of a voucher before the docket answers it.
     fn told_voucher<W: Watcher<B>>(&mut self, watcher: &mut W) -> Result<(), Ended<W::Stop>>
-        ensures told { (later : List (Ask B)) →
-            Passes W.Watcher.words B.Bound.kind self.old
-            (voucher_ask B.Bound.kind self.old.unread.next self.old.unread.rest ∷ later) (W.Watcher.said watcher.old)
-            self.new later (W.Watcher.said watcher.new) result }
+        ensures told { Hears W.Watcher.words B.Bound.kind voucher_next self.old
+            (W.Watcher.said watcher.old) self.new (W.Watcher.said watcher.new) result }
         ensures moved { Moved voucher_size self.old.unread result self.new.unread }
         ensures closed { OnOk result (IsClosed self.new.world.state.stage) }
     {
@@ -105,10 +97,8 @@ impl<'a, 'm, B: Bound> DocketFile<'a, 'm, B> {
         count: u8,
     ) -> Result<InitialLists, Ended<W::Stop>>
         requires { count < 16 }
-        ensures told { (later : List (Ask B)) →
-            Passes W.Watcher.words B.Bound.kind self.old
-            (tokens_asked count 1 self.old.unread.next self.old.unread.rest ++ later) (W.Watcher.said watcher.old)
-            self.new later (W.Watcher.said watcher.new) result }
+        ensures told { HearsTokens W.Watcher.words B.Bound.kind count self.old
+            (W.Watcher.said watcher.old) self.new (W.Watcher.said watcher.new) result }
         ensures lists { IfOk result (λ lists. AsGiven count self.old.unread.rest lists) }
         ensures left { OnOk result (self.new.unread ≡ read_tokens count self.old.unread) }
     {
@@ -125,9 +115,8 @@ impl<'a, 'm, B: Bound> DocketFile<'a, 'm, B> {
         watcher: &mut W,
         count: u8,
     ) -> Result<(), Ended<W::Stop>>
-        ensures { Passes W.Watcher.words B.Bound.kind self.old
-            (zones_asked B.Bound.kind count self.old.unread.next self.old.unread.rest) (W.Watcher.said watcher.old)
-            self.new (proving_asked B.Bound.kind self.new.unread.next self.new.unread.rest) (W.Watcher.said watcher.new) result }
+        ensures { HearsAll W.Watcher.words B.Bound.kind (zones_next count) proving_next self.old
+            (W.Watcher.said watcher.old) self.new (W.Watcher.said watcher.new) result }
     {
         for _ in 0..count {
             self.told_zone(watcher)?;
@@ -138,9 +127,8 @@ impl<'a, 'm, B: Bound> DocketFile<'a, 'm, B> {
     // Every voucher to the end of the file.
     fn told_vouchers<W: Watcher<B>>(&mut self, watcher: &mut W) -> Result<(), Ended<W::Stop>>
         requires { IsClosed self.old.world.state.stage }
-        ensures told { Passes W.Watcher.words B.Bound.kind self.old
-            (vouchers_asked B.Bound.kind (voucher_count B.Bound.kind self.old.unread.rest) self.old.unread.next self.old.unread.rest)
-            (W.Watcher.said watcher.old) self.new [] (W.Watcher.said watcher.new) result }
+        ensures told { HearsAll W.Watcher.words B.Bound.kind vouchers_next nothing_next self.old
+            (W.Watcher.said watcher.old) self.new (W.Watcher.said watcher.new) result }
         ensures closed { OnOk result (IsClosed self.new.world.state.stage) }
     {
         while !self.is_at_end() {
@@ -151,9 +139,8 @@ impl<'a, 'm, B: Bound> DocketFile<'a, 'm, B> {
 
     // There is no record of a close, and nothing is told of it.
     fn told_close<W: Watcher<B>>(&mut self, watcher: &mut W) -> Result<(), Ended<W::Stop>>
-        ensures told { (later : List (Ask B)) →
-            Passes W.Watcher.words B.Bound.kind self.old (Make self.old.unread.next Close ∷ later) (W.Watcher.said watcher.old)
-            self.new later (W.Watcher.said watcher.new) result }
+        ensures told { Hears W.Watcher.words B.Bound.kind close_next self.old
+            (W.Watcher.said watcher.old) self.new (W.Watcher.said watcher.new) result }
         ensures unread { self.new.unread ≡ self.old.unread }
         ensures closed { OnOk result (IsClosed self.new.world.state.stage) }
     {
@@ -168,9 +155,8 @@ impl<'a, 'm, B: Bound> DocketFile<'a, 'm, B> {
         header: DocketHeader,
     ) -> Result<(), Ended<W::Stop>>
         requires { header.initial < 16 }
-        ensures { Passes W.Watcher.words B.Bound.kind self.old
-            (marking_asked B.Bound.kind header self.old.unread.next self.old.unread.rest) (W.Watcher.said watcher.old)
-            self.new (proving_asked B.Bound.kind self.new.unread.next self.new.unread.rest) (W.Watcher.said watcher.new) result }
+        ensures { HearsAll W.Watcher.words B.Bound.kind (marking_next header) proving_next self.old
+            (W.Watcher.said watcher.old) self.new (W.Watcher.said watcher.new) result }
     {
         let lists = self.told_tokens(watcher, header.initial)?;
         self.told_target(watcher, &lists)?;
@@ -179,9 +165,8 @@ impl<'a, 'm, B: Bound> DocketFile<'a, 'm, B> {
 
     // The list is closed, and its items are answered.
     fn proving<W: Watcher<B>>(&mut self, watcher: &mut W) -> Result<(), Ended<W::Stop>>
-        ensures told { Passes W.Watcher.words B.Bound.kind self.old
-            (proving_asked B.Bound.kind self.old.unread.next self.old.unread.rest) (W.Watcher.said watcher.old)
-            self.new [] (W.Watcher.said watcher.new) result }
+        ensures told { HearsAll W.Watcher.words B.Bound.kind proving_next nothing_next self.old
+            (W.Watcher.said watcher.old) self.new (W.Watcher.said watcher.new) result }
         ensures closed { OnOk result (IsClosed self.new.world.state.stage) }
     {
         self.told_close(watcher)?;
@@ -190,8 +175,7 @@ impl<'a, 'm, B: Bound> DocketFile<'a, 'm, B> {
 
     // Every record, up to the end of the file.
     fn records<W: Watcher<B>>(&mut self, watcher: &mut W) -> Result<Line, Ended<W::Stop>>
-        ensures { Comes W.Watcher.words B.Bound.kind self.old
-            (docket_asked B.Bound.kind self.old.unread.next self.old.unread.rest)
+        ensures { Comes W.Watcher.words B.Bound.kind self.old (docket_next B.Bound.kind self.old.unread)
             (W.Watcher.said watcher.old) (W.Watcher.said watcher.new) result }
     {
         let header = self.told_header(watcher)?;
@@ -206,12 +190,9 @@ impl<'a, 'm, B: Bound> DocketFile<'a, 'm, B> {
     /// Makes every call that the records ask for, and comes to the line, unless the watcher stops it.
     pub fn walk<W: Watcher<B>>(&mut self, watcher: &mut W) -> Result<Line, W::Stop>
         ensures told { IfOk result (λ line.
-            Tells W.Watcher.words B.Bound.kind self.old
-            (docket_asked B.Bound.kind self.old.unread.next self.old.unread.rest)
-            (W.Watcher.said watcher.old) (W.Watcher.said watcher.new) line) }
-        ensures line { IfOk result (λ line.
-            Runs B.Bound.kind self.old.net self.old.world
-            (docket_asked B.Bound.kind self.old.unread.next self.old.unread.rest) line) }
+            TellsAll W.Watcher.words B.Bound.kind self.old (W.Watcher.said watcher.old)
+            (W.Watcher.said watcher.new) line) }
+        ensures line { IfOk result (λ line. RunsAll B.Bound.kind self.old line) }
     {
         match self.records(watcher) {
             Ok(line) => Ok(line),

@@ -1,7 +1,7 @@
 // The line of a whole file.
 ghost use Rattle.file_check.specs.Files.{line_from};
-ghost use Rattle.file_rules.specs.Asks.{docket_asked};
-ghost use Rattle.file_rules.specs.Reports.{Reports, Runs};
+ghost use Rattle.file_check.specs.Walks.{RunsAll};
+ghost use Rattle.file_rules.specs.Reports.{Reports};
 ghost use Rattle.file_rules.specs.Truth.{LinePromise, Truth};
 
 use crate::file::DocketFile;
@@ -15,8 +15,7 @@ use zone_drafts::draft::DRAFT_CELLS;
 
 // The line of the records that are left, with nobody to hear of them.
 fn line_of<B: Bound>(file: &mut DocketFile<'_, '_, B>) -> Line
-    ensures { Runs B.Bound.kind file.old.net file.old.world
-        (docket_asked B.Bound.kind file.old.unread.next file.old.unread.rest) result }
+    ensures { RunsAll B.Bound.kind file.old result }
 {
     match file.walk(&mut Silent) {
         Ok(line) => line,

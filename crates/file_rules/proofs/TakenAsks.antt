@@ -2,7 +2,7 @@
 use Rattle.std.proofs.Common.{◌≡◌, ℕ, zero, suc, ◌+◌, ◌*◌, ◌≤◌, Bool, true, false, cond, not, eqb, ltb, List, ◌∷◌, ◌++◌, length, take, drop, Ok, Err, refl, subst, arith, length-take, length-drop}
 use Rattle.std.proofs.lemmas.Bool.{eqb-true, ltb-false}
 use Rattle.bounds.specs.Kinds.{Kind}
-use Rattle.docket_records.specs.DocketRecords.{initial_token, token_of, token_spare}
+use Rattle.docket_records.specs.DocketRecords.{token_of, token_spare}
 use Rattle.docket_records.specs.Records.{read_as}
 use Rattle.docket_records.specs.declared.fault.EntryRefusal.TheVariants.{WrongLength, NotZero}
 use Rattle.nets.specs.Nets.{Net}

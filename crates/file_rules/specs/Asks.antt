@@ -5,9 +5,11 @@
 --     vouchers           one discharge each, to the end of the file
 -- A record that is cut short, or has a spare bit set where no call looks, is refused before any call.
 -- Whoever watches the walk hears of each record in his own words.
-use Rattle.std.specs.Prelude.{ℕ, zero, suc, ◌+◌, ◌*◌, ◌/◌, cond, List, [], ◌∷◌, ◌++◌, map, length, take, drop, replicate, Ok, Err, Result, nat_lt}
+use Rattle.std.specs.Prelude.{ℕ, zero, suc, ◌+◌, ◌*◌, ◌/◌, List, [], ◌∷◌, ◌++◌, map, length, take}
+use Rattle.std.specs.Prelude.{drop, replicate, Ok, Err, Result, nat_lt, if◌then◌else◌}
 use Rattle.bounds.specs.Kinds.{Kind}
-use Rattle.docket_records.specs.DocketRecords.{docket_header, docket_header_of, initial_token, token_of}
+use Rattle.docket_records.specs.DocketRecords.{docket_header, docket_header_of, initial_token}
+use Rattle.docket_records.specs.DocketRecords.{token_of}
 use Rattle.docket_records.specs.declared.docket_header.DocketHeader.{DocketHeader}
 use Rattle.docket_records.specs.declared.fault.EntryRefusal.{EntryRefusal}
 use Rattle.docket_records.specs.declared.fault.EntryRefusal.TheVariants.{WrongLength}
@@ -41,7 +43,8 @@ read_ask at said (Ok x) = Read (said x)
 read_ask at said (Err refusal) = Refuse at refusal
 
 abbrev pub header_ask : {B : Type 0} → ℕ → (rest : List ℕ) → Ask B
-header_ask at rest = read_ask at (λ header words. words.header header) (docket_header (take header_size rest))
+header_ask at rest =
+    read_ask at (λ header words. words.header header) (docket_header (take header_size rest))
 
 abbrev pub token_ask : {B : Type 0} → (number at : ℕ) → (rest : List ℕ) → Ask B
 token_ask number at rest =
@@ -50,7 +53,8 @@ token_ask number at rest =
 -- n tokens, the first of them record `at`
 abbrev pub initial_tokens_of : (n : ℕ) → (rest : List ℕ) → List InitialToken
 initial_tokens_of zero rest = []
-initial_tokens_of (suc n) rest = token_of (take token_size rest) ∷ initial_tokens_of n (drop token_size rest)
+initial_tokens_of (suc n) rest =
+    token_of (take token_size rest) ∷ initial_tokens_of n (drop token_size rest)
 
 -- n tokens, of which the first has this number
 abbrev pub tokens_asked : {B : Type 0} → (n number at : ℕ) → (rest : List ℕ) → List (Ask B)
@@ -73,22 +77,27 @@ abbrev pub scratch_page : {B : Type 0} → Kind B → List B
 scratch_page kind = replicate draft_cells kind.no_limit
 
 -- the call with a record of so many bytes
-abbrev pub with_record : {B : Type 0} → (size at : ℕ) → (rest : List ℕ) → (List ℕ → Answer → Call B) → Ask B
-with_record size at rest call = cond (nat_lt (length rest) size) (Refuse at WrongLength) (Make at (call (take size rest)))
+abbrev pub with_record : {B : Type 0} → (size at : ℕ) → (rest : List ℕ) →
+    (List ℕ → Answer → Call B) → Ask B
+with_record size at rest call =
+    if nat_lt (length rest) size then Refuse at WrongLength else Make at (call (take size rest))
 
 module _ {B : Type 0} (kind : Kind B) where
   abbrev pub target_ask : (tokens : List InitialToken) (at : ℕ) (rest : List ℕ) → Ask B
-  target_ask tokens at rest = with_record zone_size at rest (λ target. Open (as_given tokens) target (scratch_page kind))
+  target_ask tokens at rest =
+      with_record zone_size at rest (λ target. Open (as_given tokens) target (scratch_page kind))
 
   abbrev pub zone_ask : (at : ℕ) (rest : List ℕ) → Ask B
   zone_ask at rest = with_record zone_size at rest (λ zone. Post zone (scratch_page kind))
 
   abbrev pub voucher_ask : (at : ℕ) (rest : List ℕ) → Ask B
-  voucher_ask at rest = with_record voucher_size at rest (λ voucher. Discharge voucher (scratch_page kind))
+  voucher_ask at rest =
+      with_record voucher_size at rest (λ voucher. Discharge voucher (scratch_page kind))
 
   abbrev pub vouchers_asked : (n at : ℕ) (rest : List ℕ) → List (Ask B)
   vouchers_asked zero at rest = []
-  vouchers_asked (suc n) at rest = voucher_ask at rest ∷ vouchers_asked n (at + 1) (drop voucher_size rest)
+  vouchers_asked (suc n) at rest =
+      voucher_ask at rest ∷ vouchers_asked n (at + 1) (drop voucher_size rest)
 
   -- so many vouchers there are to the end, the last perhaps cut short
   abbrev pub voucher_count : (rest : List ℕ) → ℕ
@@ -102,14 +111,18 @@ module _ {B : Type 0} (kind : Kind B) where
   zones_asked zero at rest = proving_asked at rest
   zones_asked (suc n) at rest = zone_ask at rest ∷ zones_asked n (at + 1) (drop zone_size rest)
 
-  abbrev pub target_asked : (tokens : List InitialToken) (zones at : ℕ) (rest : List ℕ) → List (Ask B)
-  target_asked tokens zones at rest = target_ask tokens at rest ∷ zones_asked zones (at + 1) (drop zone_size rest)
+  abbrev pub target_asked : (tokens : List InitialToken) (zones at : ℕ) (rest : List ℕ) →
+      List (Ask B)
+  target_asked tokens zones at rest =
+      target_ask tokens at rest ∷ zones_asked zones (at + 1) (drop zone_size rest)
 
   abbrev pub marking_asked : DocketHeader → (at : ℕ) (rest : List ℕ) → List (Ask B)
   marking_asked h at rest = tokens_asked h.initial 1 at rest
-      ++ target_asked (initial_tokens_of h.initial rest) h.zones (at + h.initial) (drop (token_size * h.initial) rest)
+      ++ target_asked (initial_tokens_of h.initial rest) h.zones (at
+      + h.initial) (drop (token_size * h.initial) rest)
 
   -- the docket part of a file, its header record `at`
   abbrev pub docket_asked : (at : ℕ) (rest : List ℕ) → List (Ask B)
   docket_asked at rest =
-      header_ask at rest ∷ marking_asked (docket_header_of (take header_size rest)) (at + 1) (drop header_size rest)
+      header_ask at rest
+      ∷ marking_asked (docket_header_of (take header_size rest)) (at + 1) (drop header_size rest)

@@ -16,4 +16,6 @@ file_text (Call refusal) = call_refusal_text refusal
 
 -- a refusal by number and text, with its record
 abbrev pub file_fault_text : FileFault → List ℕ
-file_fault_text fault = decimal (file_number fault.refusal) ++ (codes " in record " ++ (decimal fault.at ++ (codes ": " ++ file_text fault.refusal)))
+file_fault_text fault =
+    decimal (file_number fault.refusal)
+    ++ (codes " in record " ++ (decimal fault.at ++ (codes ": " ++ file_text fault.refusal)))

@@ -7,9 +7,13 @@ use Rattle.file_rules.specs.declared.line.Line.TheVariants.{Sealed, Due as Still
 
 -- zone, transition and matching
 abbrev pub item_numbers_text : Item → List ℕ
-item_numbers_text d = decimal d.zone ++ (codes " " ++ (decimal d.transition ++ (codes " " ++ decimal d.matching)))
+item_numbers_text d =
+    decimal d.zone ++ (codes " " ++ (decimal d.transition ++ (codes " " ++ decimal d.matching)))
 
 abbrev pub line_text : Line → List ℕ
-line_text (Sealed zones vouchers) = codes "sealed " ++ (decimal zones ++ (codes " " ++ decimal vouchers))
-line_text (StillDue item vouchers) = codes "due " ++ (item_numbers_text item ++ (codes " " ++ decimal vouchers))
-line_text (Refused fault) = codes "refused " ++ (decimal (file_number fault.refusal) ++ (codes " " ++ decimal fault.at))
+line_text (Sealed zones vouchers) =
+    codes "sealed " ++ (decimal zones ++ (codes " " ++ decimal vouchers))
+line_text (StillDue item vouchers) =
+    codes "due " ++ (item_numbers_text item ++ (codes " " ++ decimal vouchers))
+line_text (Refused fault) =
+    codes "refused " ++ (decimal (file_number fault.refusal) ++ (codes " " ++ decimal fault.at))

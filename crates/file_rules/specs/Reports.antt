@@ -15,10 +15,12 @@ use Rattle.docket_refusals.specs.declared.refusal.CallRefusal.TheVariants.{Entry
 use Rattle.file_rules.specs.Asks.{Ask, Read, Refuse, Make, docket_asked}
 use Rattle.file_rules.specs.declared.fault.FileRefusal.TheVariants.{Net as InNet, Call as InCall}
 use Rattle.file_rules.specs.declared.line.Line.{Line}
-use Rattle.file_rules.specs.declared.line.Line.TheVariants.{Sealed as SealedLine, Due as DueLine, Refused}
+use Rattle.file_rules.specs.declared.line.Line.TheVariants.{Sealed as SealedLine, Due as DueLine}
+use Rattle.file_rules.specs.declared.line.Line.TheVariants.{Refused}
 use Rattle.docket_rules.specs.Calls.{Step}
 use Rattle.docket_rules.specs.Tables.{Answer}
-use Rattle.docket_rules.specs.Worlds.{State, World, blank, book_cells, book_places, listed_count, with_book}
+use Rattle.docket_rules.specs.Worlds.{State, World, blank, book_cells, book_places, listed_count}
+use Rattle.docket_rules.specs.Worlds.{with_book}
 use Rattle.docket_rules.specs.declared.stage.Stage.{Stage}
 use Rattle.docket_rules.specs.declared.stage.Stage.TheVariants.{Blank, Listing, Proving, Sealed}
 
@@ -39,8 +41,11 @@ Goes at (Err r) line later = line ≡ Refused (record { refusal = InCall r; at =
 abbrev pub Runs : {B : Type 0} → Kind B → Net B → World B → List (Ask B) → Line → Type 0
 Runs kind net w [] line = Ends w.state w.state.stage line
 Runs kind net w (Read said ∷ later) line = Runs kind net w later line
-Runs kind net w (Refuse at refusal ∷ later) line = line ≡ Refused (record { refusal = InCall (Entry refusal); at = at })
-Runs kind net w (Make at call ∷ later) line = (answer : Answer) × (v : World _) × Step kind net w (call answer) v × Goes at answer line (Runs kind net v later line)
+Runs kind net w (Refuse at refusal ∷ later) line =
+    line ≡ Refused (record { refusal = InCall (Entry refusal); at = at })
+Runs kind net w (Make at call ∷ later) line =
+    (answer : Answer) × (v : World _) × Step kind net w (call answer) v
+    × Goes at answer line (Runs kind net v later line)
 
 -- ---- the whole file
 -- a blank docket, over a book of 64 pages
@@ -48,7 +53,8 @@ abbrev pub blank_world : {B : Type 0} → Kind B → World B
 blank_world kind = with_book blank (replicate book_cells kind.no_limit) (replicate book_places 0)
 
 abbrev pub ReportsUnder : {B : Type 0} → Kind B → List ℕ → Line → Type 0
-ReportsUnder kind bytes line = Runs kind (net_of kind bytes) (blank_world kind) (docket_asked kind (first_later bytes) (later_records bytes)) line
+ReportsUnder kind bytes line =
+    Runs kind (net_of kind bytes) (blank_world kind) (docket_asked kind (first_later bytes) (later_records bytes)) line
 
 -- by the kind of the net header
 abbrev pub ReportsOf : NetKind → List ℕ → Line → Type 0
@@ -60,7 +66,8 @@ net_kind_of bytes = (net_header_of (take 4 bytes)).kind
 
 abbrev pub ReportsBy : List ℕ → Option NetFault → Line → Type 0
 ReportsBy bytes None line = ReportsOf (net_kind_of bytes) bytes line
-ReportsBy bytes (Some fault) line = line ≡ Refused (record { refusal = InNet fault.refusal; at = fault.at })
+ReportsBy bytes (Some fault) line =
+    line ≡ Refused (record { refusal = InNet fault.refusal; at = fault.at })
 
 -- the net's records are tested first
 abbrev pub Reports : List ℕ → Line → Type 0

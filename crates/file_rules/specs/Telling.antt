@@ -2,7 +2,7 @@
 -- order, up to the end or to the first refusal. Of a refusal itself he says nothing.
 --     w, v            the docket and the book before and after a call
 --     before, last    what was said before these asks, and what with them
-use Rattle.std.specs.Prelude.{◌≡◌, ℕ, List, [], ◌∷◌, ◌++◌, Ok, Err, None, Some, Option}
+use Rattle.std.specs.Prelude.{◌≡◌, ℕ, List, [], ◌∷◌, ◌++◌, Ok, Err}
 use Rattle.bounds.specs.Kinds.{Kind}
 use Rattle.docket_records.specs.Vouchers.{voucher_of}
 use Rattle.docket_refusals.specs.declared.refusal.CallRefusal.TheVariants.{Entry}
@@ -47,10 +47,11 @@ module _ {B : Type 0} (words : Words B) where
     Tells w (Make at call ∷ later) before last line =
         (answer : Answer) × (v : World B) × Step kind net w (call answer) v
         × TellsOn at answer (before ++ call_words w v (call answer)) last line
-          (Tells v later (before ++ call_words w v (call answer)) last line)
+        (Tells v later (before ++ call_words w v (call answer)) last line)
 
 -- the docket part of a whole file, from a blank docket on
-abbrev pub TellsUnder : {B : Type 0} → Words B → Kind B → List ℕ → (before last : List ℕ) → Line → Type 0
+abbrev pub TellsUnder : {B : Type 0} → Words B → Kind B → List ℕ → (before last : List ℕ) → Line →
+    Type 0
 TellsUnder words kind bytes before last line =
     Tells words kind (net_of kind bytes) (blank_world kind)
-      (docket_asked kind (first_later bytes) (later_records bytes)) before last line
+    (docket_asked kind (first_later bytes) (later_records bytes)) before last line

@@ -1,6 +1,7 @@
 -- What a line says of the bytes: of a sealed one, that the net which they say is safe; of a due one, which item is next.
 --
-use Rattle.std.specs.Prelude.{◌≡◌, ℕ, zero, suc, ◌+◌, ◌*◌, List, [], ◌∷◌, take, drop, length, Some, None}
+use Rattle.std.specs.Prelude.{◌≡◌, ℕ, zero, suc, ◌+◌, ◌*◌, List, [], ◌∷◌, take, drop, length, Some}
+use Rattle.std.specs.Prelude.{None}
 use Rattle.bounds.specs.Kinds.{Kind}
 use Rattle.bounds.specs.MarkedKind.{marked_kind}
 use Rattle.bounds.specs.PlainKind.{plain_kind}
@@ -43,19 +44,23 @@ abbrev pub target_start : List ℕ → ℕ
 target_start bytes = header_size + token_size * (file_header_of bytes).initial
 
 abbrev pub target_of : {B : Type 0} → Kind B → List ℕ → Zone B
-target_of kind bytes = zone_of kind (take zone_size (drop (target_start bytes) (later_records bytes)))
+target_of kind bytes =
+    zone_of kind (take zone_size (drop (target_start bytes) (later_records bytes)))
 
 -- n zones, a record each
 abbrev pub zones_of : {B : Type 0} → Kind B → (n : ℕ) → (rest : List ℕ) → List (Zone B)
 zones_of kind zero rest = []
-zones_of kind (suc n) rest = zone_of kind (take zone_size rest) ∷ zones_of kind n (drop zone_size rest)
+zones_of kind (suc n) rest =
+    zone_of kind (take zone_size rest) ∷ zones_of kind n (drop zone_size rest)
 
 abbrev pub listed_of : {B : Type 0} → Kind B → List ℕ → List (Zone B)
-listed_of kind bytes = zones_of kind (file_header_of bytes).zones (drop (target_start bytes + zone_size) (later_records bytes))
+listed_of kind bytes =
+    zones_of kind (file_header_of bytes).zones (drop (target_start bytes + zone_size) (later_records bytes))
 
 -- what is due for the net and these zones after so many vouchers, the earliest first
 abbrev pub left_of : {B : Type 0} → Kind B → List ℕ → (vouchers : ℕ) → List Item
-left_of kind bytes vouchers = drop vouchers (all_due (net_of kind bytes) (places_of_all (listed_of kind bytes)))
+left_of kind bytes vouchers =
+    drop vouchers (all_due (net_of kind bytes) (places_of_all (listed_of kind bytes)))
 
 -- ---- a seal
 -- a lawful net, and no run of it on any grid from the initial marking covers the target
@@ -79,10 +84,12 @@ Truth bytes (Refused fault) = Unit {0}
 -- ---- counts
 -- every record of the file was taken: the zones that the header says, and so many vouchers
 pub record AllTaken (bytes : List ℕ) (vouchers : ℕ) : Type 0 where
-  pub all : length (later_records bytes) ≡ target_start bytes + (zone_size + zone_size * (file_header_of bytes).zones) + voucher_size * vouchers
+  pub all : length (later_records bytes) ≡ target_start bytes
+      + (zone_size + zone_size * (file_header_of bytes).zones) + voucher_size * vouchers
 
 abbrev pub Counts : List ℕ → Line → Type 0
-Counts bytes (Sealed zones vouchers) = (zones ≡ (file_header_of bytes).zones) × AllTaken bytes vouchers
+Counts bytes (Sealed zones vouchers) =
+    (zones ≡ (file_header_of bytes).zones) × AllTaken bytes vouchers
 Counts bytes (Due item vouchers) = AllTaken bytes vouchers
 Counts bytes (Refused fault) = Unit {0}
 

@@ -6,10 +6,14 @@ use Rattle.net_words.specs.Summaries.{counted_text}
 
 abbrev pub head_text : DocketHeader → List ℕ
 head_text h =
-    codes "docket: " ++ (counted_text h.initial (codes "initial token") ++ (codes ", " ++ counted_text h.zones (codes "listed zone")))
+    codes "docket: "
+    ++ (counted_text h.initial (codes "initial token")
+    ++ (codes ", " ++ counted_text h.zones (codes "listed zone")))
 
 abbrev pub initial_text : ℕ → InitialToken → List ℕ
-initial_text n t = codes "initial token " ++ (decimal n ++ (codes " in place " ++ (decimal t.place ++ (codes ", age " ++ decimal t.age))))
+initial_text n t =
+    codes "initial token "
+    ++ (decimal n ++ (codes " in place " ++ (decimal t.place ++ (codes ", age " ++ decimal t.age))))
 
 -- ---- as lines of their own
 abbrev pub head_line : DocketHeader → List ℕ

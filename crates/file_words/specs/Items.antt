@@ -1,5 +1,6 @@
 -- An item that is due, and what a voucher claims of it, written for people.
-use Rattle.std.specs.Prelude.{ℕ, ◌+◌, cond, List, [], ◌∷◌, ◌++◌, codes, decimal, length, take, min, Option, Some, None, ◌==◌, slice_index}
+use Rattle.std.specs.Prelude.{ℕ, ◌+◌, List, [], ◌∷◌, ◌++◌, codes, decimal, length, take, min}
+use Rattle.std.specs.Prelude.{Option, Some, None, ◌==◌, slice_index, if◌then◌else◌}
 use Rattle.file_words.specs.Tables.{below}
 use Rattle.docket_dues.specs.declared.item.Item.{Item}
 use Rattle.docket_records.specs.declared.voucher.Voucher.{Voucher}
@@ -18,13 +19,18 @@ numbers_text ns = below (spaced_text ns) (length ns)
 -- ---- an item
 -- a matching by its four digits
 abbrev pub firing_text : ℕ → ℕ → List ℕ
-firing_text transition matching = codes "transition " ++ (decimal transition ++ (codes " by matching" ++ numbers_text (fields matching)))
+firing_text transition matching =
+    codes "transition "
+    ++ (decimal transition ++ (codes " by matching" ++ numbers_text (fields matching)))
 
 abbrev pub before_text : ℕ → ℕ → List ℕ
-before_text transition matching = cond (transition == 0) (codes "a delay") (firing_text transition matching)
+before_text transition matching =
+    if transition == 0 then codes "a delay" else firing_text transition matching
 
 abbrev pub item_text : Item → List ℕ
-item_text d = cond (d.zone == 0) (codes "the target") (codes "zone " ++ (decimal d.zone ++ (codes " before " ++ before_text d.transition d.matching)))
+item_text d =
+    if d.zone == 0 then codes "the target" else codes "zone "
+    ++ (decimal d.zone ++ (codes " before " ++ before_text d.transition d.matching))
 
 -- a voucher can follow the last item
 abbrev pub due_text : Option Item → List ℕ
@@ -34,7 +40,10 @@ due_text (Some d) = item_text d
 -- ---- a voucher
 -- the zone that vouches, and for each of its tokens in their order the token of the item that it is paired with
 abbrev pub claim_text : Voucher → (used : ℕ) → List ℕ
-claim_text v used = cond v.void (codes "void") (codes "zone " ++ (decimal v.zone ++ (codes ", tokens" ++ numbers_text (take used v.partners))))
+claim_text v used =
+    if v.void then codes "void"
+    else (codes "zone "
+    ++ (decimal v.zone ++ (codes ", tokens" ++ numbers_text (take used v.partners))))
 
 -- vouchers are numbered from 1
 abbrev pub voucher_text : (number : ℕ) → Option Item → Voucher → (used : ℕ) → List ℕ

@@ -40,7 +40,8 @@ teller_words kind words = record {
 }
 
 -- ---- the docket part of a whole file, from a blank docket on: what the teller says, and the line
-pub record UnderTold {B : Type 0} (kind : Kind B) (words : B → List ℕ) (bytes before last : List ℕ) : Type 0 where
+pub record UnderTold {B : Type 0} (kind : Kind B) (words : B →
+    List ℕ) (bytes before last : List ℕ) : Type 0 where
   pub line : Line
   pub reports : ReportsUnder kind bytes line
   pub said : List ℕ

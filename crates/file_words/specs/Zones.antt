@@ -8,10 +8,12 @@ abbrev pub name_text : ℕ → List ℕ
 name_text n = numbered_text (codes "target") (codes "zone") n
 
 abbrev pub title_line : ℕ → ℕ → List ℕ
-title_line n tokens = name_text n ++ (codes ": " ++ (counted_text tokens (codes "token") ++ (10 ∷ [])))
+title_line n tokens =
+    name_text n ++ (codes ": " ++ (counted_text tokens (codes "token") ++ (10 ∷ [])))
 
 abbrev pub place_line : ℕ → ℕ → List ℕ
-place_line number place = codes "  token " ++ (decimal number ++ (codes " in place " ++ (decimal place ++ (10 ∷ []))))
+place_line number place =
+    codes "  token " ++ (decimal number ++ (codes " in place " ++ (decimal place ++ (10 ∷ []))))
 
 -- a line for each token, numbered from 1
 abbrev pub places_text : List ℕ → List ℕ
@@ -19,4 +21,5 @@ places_text places = below (λ t. place_line (t + 1) (slice_index places t)) (le
 
 abbrev pub zone_text : {B : Type 0} → (B → List ℕ) → ℕ → List ℕ → (ℕ → ℕ → B) → List ℕ
 zone_text words number places bounds =
-    title_line number (length places) ++ (places_text places ++ table_text words bounds (length places + 1))
+    title_line number (length places)
+    ++ (places_text places ++ table_text words bounds (length places + 1))

@@ -12,7 +12,7 @@ loop-at-preserved g c =
     let so_far = c.loop-at.invariant in
     record {
       going = λ later. tokens_on g.W.Watcher.words g.B.Bound.kind c.args.count c.loop-at.at c.loop-at-test.true _ _ _ later _ _ (so_far.going later) _ _ (step.moved refl) step.told;
-      given = given_more c.loop-at.at _ c.in_ok-token.token _ _ (omega (arith, c.requires, c.loop-at-test.true)) (step.token ∙ ap (λ u. token_of (take 3 u.rest)) so_far.left) so_far.given c.add.ensures.places c.add.ensures.ages;
+      given = given_more c.loop-at.at _ c.in_ok-token.token _ _ (omega (arith, c.requires, c.loop-at-test.true)) (step.token ∙ ap (λ u. token_of (take 3 u.rest)) so_far.left) so_far.given c.add.ensures.places.room c.add.ensures.ages.room;
       left = past_tokens c.loop-at.at _ _ _ so_far.left (step.moved refl);
       few = omega (arith, c.loop-at-test.true);
     }

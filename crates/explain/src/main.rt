@@ -1,4 +1,4 @@
-// Reads a file from standard input, and prints its net and its docket part in words or why they are refused.
+//! Reads a file from standard input, and prints its net and its docket part in words or why they are refused.
 #![tactic(auto)]
 
 use file_words::explain_file;

@@ -10,11 +10,12 @@ use docket_refusals::CallRefusal;
 use net_records::fault::{Missing, NetFault, NetRefusal, Refusal};
 use std::fmt;
 
+/// Why a record of a file is refused.
 #[derive(Clone, Copy, PartialEq, Eq, Debug)]
 pub enum FileRefusal {
-    // 10 to 15: what is wrong with a record of the net
+    /// 10 to 15: what is wrong with a record of the net
     Net(NetRefusal),
-    // 20 to 42: what is wrong with a later record, or with the call that it asks for
+    /// 20 to 42: what is wrong with a later record, or with the call that it asks for
     Call(CallRefusal),
 }
 
@@ -50,10 +51,12 @@ impl fmt::Display for FileRefusal {
     }
 }
 
-// A refusal, and which record has it: counted from 0 through the whole file.
+/// A refusal, and which record has it: counted from 0 through the whole file.
 #[derive(Clone, Copy, PartialEq, Eq, Debug)]
 pub struct FileFault {
+    /// why
     pub refusal: FileRefusal,
+    /// the number of the record
     pub at: usize,
 }
 

@@ -5,7 +5,7 @@ ghost use Rattle.std.specs.Prelude.{ℕ, List};
 use bounds::{MarkedBound, PlainBound};
 use docket_rules::calls_keep_laws;
 
-// Does nothing: its contract is what is promised of the line of every file.
+/// Does nothing: its contract is what is promised of the line of every file.
 pub fn lines_keep_promises()
     ensures { (bytes : List ℕ) → LinePromise bytes }
 {

@@ -1,4 +1,4 @@
-// The one line that a file comes to, and what is promised of it.
+//! The one line that a file comes to, and what is promised of it.
 #![tactic(auto)]
 
 pub mod fault;

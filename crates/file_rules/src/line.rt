@@ -7,12 +7,14 @@ use docket_dues::Item;
 use net_records::fault::Refusal;
 use std::fmt;
 
+/// What a file comes to.
 #[derive(Clone, Copy, PartialEq, Eq, Debug)]
 pub enum Line {
-    // every item is answered: how many zones are listed, and how many vouchers were taken
+    /// every item is answered: how many zones are listed, and how many vouchers were taken
     Sealed { zones: u8, vouchers: u64 },
-    // the file ends before that: the first item that is due
+    /// the file ends before that: the first item that is due
     Due { item: Item, vouchers: u64 },
+    /// a record is refused, or the call that it asks for
     Refused(FileFault),
 }
 

@@ -1,4 +1,4 @@
-// Whole files, each with its line worked out by hand from the rules.
+//! Whole files, each with its line worked out by hand from the rules.
 #![tactic(auto)]
 
 #[cfg(test)]

@@ -7,10 +7,11 @@ ghost use Rattle.bounds.specs.Texts.{limit_text};
 use bounds::{Bound, MarkedBound, PlainBound};
 use std::alloc::AllocError;
 
-// Each kind writes itself: one body over a bound `Display` would ask more of whoever brings a kind.
+/// Each kind writes itself: one body over a bound `Display` would ask more of whoever brings a kind.
 pub trait BoundWords: Bound {
     ghost words: { Self → List ℕ };
 
+    /// Writes the bound at the end of the text.
     fn write_words(self, text: &mut String) -> Result<(), AllocError>
         ensures { OnOk result (string_bytes text.new ≡ string_bytes text.old ++ words self) };
 }

@@ -7,6 +7,7 @@ use docket_records::token::InitialToken;
 use net_words::Counted;
 use std::fmt;
 
+/// A docket header.
 #[derive(Clone, Copy)]
 pub struct HeaderWords(pub DocketHeader);
 
@@ -15,21 +16,23 @@ impl fmt::Display for HeaderWords {
 
     fn fmt<W: fmt::Write>(&self, f: &mut fmt::Formatter<W>) -> fmt::Result {
         let tokens = Counted {
-            count: self.0.initial,
+            count: u64::from(self.0.initial),
             name: "initial token",
         };
         let zones = Counted {
-            count: self.0.zones,
+            count: u64::from(self.0.zones),
             name: "listed zone",
         };
         write!(f, "docket: {tokens}, {zones}")
     }
 }
 
-// Tokens are numbered from 1.
+/// An initial token; tokens are numbered from 1.
 #[derive(Clone, Copy)]
 pub struct TokenWords {
+    /// its number
     pub number: u8,
+    /// its place and age
     pub token: InitialToken,
 }
 

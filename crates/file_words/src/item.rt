@@ -6,7 +6,7 @@ use docket_dues::Item;
 use std::fmt;
 use zone_matchings::digits;
 
-// Numbers, each after a space.
+/// Numbers, each after a space.
 #[derive(Clone, Copy)]
 pub struct Spaced<'a>(pub &'a [u8]);
 
@@ -43,6 +43,7 @@ impl fmt::Display for Before {
     }
 }
 
+/// An item that is due.
 #[derive(Clone, Copy)]
 pub struct ItemWords(pub Item);
 

@@ -5,15 +5,19 @@ ghost use Rattle.std.specs.Prelude.{◌≡◌, Some};
 
 use std::fmt;
 
+/// A name with a number.
 #[derive(Clone, Copy)]
 pub struct Numbered {
+    /// the number
     pub number: u8,
+    /// the word for number 0
     pub zero: &'static str,
+    /// the name of all others
     pub name: &'static str,
 }
 
 impl Numbered {
-    // A point of a zone: the clock, and the tokens numbered from 1.
+    /// A point of a zone: the clock, and the tokens numbered from 1.
     pub fn point(number: u8) -> Numbered
         ensures { numbered_text result.zero.now result.name.now result.number ≡ point_text number }
     {
@@ -24,7 +28,7 @@ impl Numbered {
         }
     }
 
-    // A zone: the target, and the listed zones numbered from 1.
+    /// A zone: the target, and the listed zones numbered from 1.
     pub fn zone(number: u8) -> Numbered
         ensures { numbered_text result.zero.now result.name.now result.number ≡ name_text number }
     {

@@ -64,6 +64,7 @@ fn write_row<B: BoundWords>(
     writeln!(text)
 }
 
+/// Writes the table of a zone with so many tokens.
 pub fn write_table<B: BoundWords>(
     text: &mut String,
     page: &Page<'_, B>,

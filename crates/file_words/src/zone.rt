@@ -45,7 +45,7 @@ fn write_zone<B: BoundWords>(
     let name = Numbered::zone(number);
     let count = page.places.len() as u8;
     let counted = Counted {
-        count,
+        count: u64::from(count),
         name: "token",
     };
     let places = Places(page.places);

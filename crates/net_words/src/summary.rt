@@ -8,7 +8,7 @@ use std::fmt;
 /// So many things of a name that takes an `s` unless there is one.
 #[derive(Clone, Copy)]
 pub struct Counted {
-    pub count: u8,
+    pub count: u64,
     pub name: &'static str,
 }
 
@@ -35,11 +35,11 @@ impl fmt::Display for Summary {
     fn fmt<W: fmt::Write>(&self, f: &mut fmt::Formatter<W>) -> fmt::Result {
         let header = self.0;
         let places = Counted {
-            count: header.places,
+            count: u64::from(header.places),
             name: "place",
         };
         let transitions = Counted {
-            count: header.transitions,
+            count: u64::from(header.transitions),
             name: "transition",
         };
         let kind = match header.kind {

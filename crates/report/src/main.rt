@@ -1,4 +1,4 @@
-// Reads a file from standard input to its end, and prints the one line that it comes to.
+//! Reads a file from standard input to its end, and prints the one line that it comes to.
 #![tactic(auto)]
 
 use file_check::report;

@@ -55,12 +55,12 @@ pub const STAGES: [Stage; 5] = [
 
 /// A net of two places: from place 0, age 1 to 2, into place 1 at age 0.
 pub fn two_carriers(heap: Global) -> Result<Vec<u8>, Fail> {
-    one_transition(
+    Ok(one_transition(
         heap,
         &[0x41, 0x02, 0x00, 0x00],
         [0x00, 0x00, 0x04, 0x00, 0x04],
         [0x04, 0x00, 0x00, 0x00, 0x00],
-    )
+    )?)
 }
 
 /// Opened with a token of age 2 in place 0, with its three zones listed.

@@ -2,7 +2,8 @@
 -- call for each.
 --     entry     the opening, a listed zone, the end of the list, or a voucher
 --     log       what the calls that were taken have given
-use Rattle.std.specs.Prelude.{◌≡◌, ℕ, ◌<◌, true, List, [], ◌∷◌, map, length, take, replicate, Ok, Err, Some, Result, slice_index_or}
+use Rattle.std.specs.Prelude.{◌≡◌, ℕ, ◌<◌, true, List, [], ◌∷◌, map, length, take, replicate, Ok}
+use Rattle.std.specs.Prelude.{Err, Some, Result, slice_index_or}
 use Rattle.net_handover.specs.HandoverNet.{handover_net}
 use Rattle.net_handover.specs.declared.Handover.{Handover}
 use Rattle.nets.specs.Markings.{Marking}
@@ -12,12 +13,9 @@ use Rattle.docket_dues.specs.declared.item.Item.{Item}
 use Rattle.docket_records.specs.ZoneRecords.{zone_of}
 use Rattle.docket_example.specs.declared.certificate.Certificate.{Certificate}
 use Rattle.docket_example.specs.declared.checking.Entry.{Entry}
-use Rattle.docket_example.specs.declared.checking.Entry.TheVariants.{
-  Opening as InOpening,
-  Zone as InZone,
-  ListEnd,
-  Voucher,
-}
+use Rattle.docket_example.specs.declared.checking.Entry.TheVariants.{Opening as InOpening}
+use Rattle.docket_example.specs.declared.checking.Entry.TheVariants.{Zone as InZone, ListEnd}
+use Rattle.docket_example.specs.declared.checking.Entry.TheVariants.{Voucher}
 use Rattle.docket_example.specs.declared.checking.Refused.{Refused}
 use Rattle.docket_example.specs.declared.checking.Verdict.{Verdict}
 use Rattle.docket_example.specs.declared.checking.Verdict.TheVariants.{Sealed, StillDue}

@@ -1,4 +1,5 @@
--- A type whose values stand for limits is a kind of bounds: the laws are shown once, for every such type.
+-- A type whose values stand for limits is a kind of bounds: the laws are shown once, for every such
+-- type.
 use Rattle.std.specs.Prelude.{◌≡◌, ◌+◌, ◌≤◌, Bool, true, false, ◌||◌, T, ℤ, pos, ◌+ℤ◌, int_le}
 use Rattle.std.specs.Prelude.{nat_le, unsigned_abs, refl, IsTrue, if◌then◌else◌}
 use Rattle.std.proofs.Common.{arith, leb→le, sym, ap, subst, ◌∙◌}
@@ -66,7 +67,10 @@ module _ {B : Type 0} (coding : Coding B) where
 
   pub view_zero : coding.view (coding.of (number (pos 0) false)) ≡ number (pos 0) false
   view_zero =
-      coding.reads (number (pos 0) false) (record { small = omega arith; takes = λ e. absurd (false≢true e) })
+      coding.reads (number (pos 0) false) (record {
+        small = omega arith;
+        takes = λ e. absurd (false≢true e);
+      })
 
   pub view_no_limit : coding.view (coding.of unlimited) ≡ unlimited
   view_no_limit = coding.reads unlimited tt

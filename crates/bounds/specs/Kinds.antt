@@ -82,14 +82,16 @@ pub record Kind (B : Type 0) : Type 0 where
       sum (number c s) (number d t) ≡ (if nat_le (unsigned_abs (c +ℤ d)) largest_size
       then number (c +ℤ d) (s || t) else no_limit)
 
--- what making answers: the bound of the number, unless the number is outside the limits or the kind does not take the mark
+-- what making answers: the bound of the number, unless the number is outside the limits or the kind
+-- does not take the mark
 abbrev pub made : {B : Type 0} → Kind B → ℤ → Bool → Result B MakeError
 made kind c strict =
     if nat_le (unsigned_abs c) largest_number
     then (if strict && not kind.marks then Err MarkNotTaken else Ok (kind.number c strict))
     else Err OutsideLimits
 
--- the bound of the number, without its mark where the kind does not take it; outside the limits no limit
+-- the bound of the number, without its mark where the kind does not take it; outside the limits no
+-- limit
 abbrev pub bound_of : {B : Type 0} → Kind B → ℤ → Bool → B
 bound_of kind c strict =
     if nat_le (unsigned_abs c) largest_number then kind.number c (strict && kind.marks)

@@ -25,14 +25,17 @@ abbrev pub marked_word : Limit → ℤ
 marked_word (number c s) = capped_place c s
 marked_word unlimited = no_limit_word
 
-pub place_held : (c : ℤ) (s : Bool) → IsTrue (nat_le (unsigned_abs c) largest_size) → IsTrue (is_marked_word (place c s))
+pub place_held : (c : ℤ) (s : Bool) → IsTrue (nat_le (unsigned_abs c) largest_size) →
+    IsTrue (is_marked_word (place c s))
 place_held c s e =
-    ap (λ t. t || int_eq (place c s) no_limit_word) (ap (λ d. nat_le (unsigned_abs d) largest_size) (half_place c s) ∙ e)
+    let small = ap (λ d. nat_le (unsigned_abs d) largest_size) (half_place c s) ∙ e in
+    ap (λ t. t || int_eq (place c s) no_limit_word) small
 
 capped_marked : (c : ℤ) (s : Bool) → IsTrue (is_marked_word (capped_place c s))
 capped_marked c s = by_test (nat_le (unsigned_abs c) largest_size) refl
   where
-    by_test : (t : Bool) → nat_le (unsigned_abs c) largest_size ≡ t → IsTrue (is_marked_word (if t then place c s else no_limit_word))
+    by_test : (t : Bool) → nat_le (unsigned_abs c) largest_size ≡ t →
+        IsTrue (is_marked_word (if t then place c s else no_limit_word))
     by_test true e = place_held c s e
     by_test false e = refl
 
@@ -54,18 +57,20 @@ same_marked a b e i =
 
 -- ---- each word stands for one limit, and each limit that is asked for has its word
 -- of a number within the largest size
-pub place_limit : (c : ℤ) (s : Bool) → unsigned_abs c ≤ largest_size → marked_limit (place c s) ≡ number c s
+pub place_limit : (c : ℤ) (s : Bool) → unsigned_abs c ≤ largest_size →
+    marked_limit (place c s) ≡ number c s
 place_limit c s h =
-    let below : int_le (place c s) largest_place ≡ true = below_by s in
+    let below : IsTrue (int_le (place c s) largest_place) = below_by s in
     cond-true (int_le (place c s) largest_place) (number (half (place c s)) (even (place c s))) unlimited below
     ∙ ap (λ d. number d (even (place c s))) (half_place c s)
     ∙ ap (number c) (even_place c s)
   where
-    below_by : (s : Bool) → int_le (place c s) largest_place ≡ true
+    below_by : (s : Bool) → IsTrue (int_le (place c s) largest_place)
     below_by true = sym (omega (arith, ints))
     below_by false = sym (omega (arith, ints))
 
-pub small_limit : (z : ℤ) → unsigned_abs (half z) ≤ largest_size → marked_limit z ≡ number (half z) (even z)
+pub small_limit : (z : ℤ) → unsigned_abs (half z) ≤ largest_size →
+    marked_limit z ≡ number (half z) (even z)
 small_limit z h = ap marked_limit (sym (place-half z)) ∙ place_limit (half z) (even z) h
 
 pub marked_back : (z : ℤ) → IsTrue (is_marked_word z) → marked_word (marked_limit z) ≡ z

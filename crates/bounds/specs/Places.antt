@@ -53,13 +53,17 @@ is_marked_word z = nat_le (unsigned_abs (half z)) largest_size || int_eq z no_li
 abbrev pub capped_place : ℤ → Bool → ℤ
 capped_place c s = if nat_le (unsigned_abs c) largest_size then place c s else no_limit_word
 
-pub place_cases : (z : ℤ) → IsTrue (is_marked_word z) → (unsigned_abs (half z) ≤ largest_size) ⊎ (z ≡ no_limit_word)
+pub place_cases : (z : ℤ) → IsTrue (is_marked_word z) →
+    (unsigned_abs (half z) ≤ largest_size) ⊎ (z ≡ no_limit_word)
 place_cases z h = by_test (nat_le (unsigned_abs (half z)) largest_size) refl h
   where
-    by_test : (t : Bool) → nat_le (unsigned_abs (half z)) largest_size ≡ t → IsTrue (t || int_eq z no_limit_word) → (unsigned_abs (half z) ≤ largest_size) ⊎ (z ≡ no_limit_word)
+    by_test : (t : Bool) → nat_le (unsigned_abs (half z)) largest_size ≡ t →
+        IsTrue (t || int_eq z no_limit_word) →
+        (unsigned_abs (half z) ≤ largest_size) ⊎ (z ≡ no_limit_word)
     by_test true e h = inl (leb-true (unsigned_abs (half z)) largest_size e)
     by_test false e h = inr ((Decides-int_eq z no_limit_word).0 h)
 
 -- so the sum of the numbers of two words has room in 64 bits
 pub half_small : (z : ℤ) → IsTrue (is_marked_word z) → unsigned_abs (half z) ≤ no_limit_size
-half_small z h = ⊎_elim (λ s. omega (arith, ints, s)) (λ e. omega (arith, ints, ap half e)) (place_cases z h)
+half_small z h =
+    ⊎_elim (λ s. omega (arith, ints, s)) (λ e. omega (arith, ints, ap half e)) (place_cases z h)

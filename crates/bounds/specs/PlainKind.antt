@@ -1,4 +1,5 @@
--- What plain bounds mean: one word, which is a number without a mark or says that there is no limit.
+-- What plain bounds mean: one word, which is a number without a mark or says that there is no
+-- limit.
 use Rattle.std.specs.Prelude.{◌≡◌, ◌≤◌, Bool, true, false, ℤ, pos, int_le, nat_le}
 use Rattle.std.specs.Prelude.{unsigned_abs, refl, IsTrue, if◌then◌else◌}
 use Rattle.std.proofs.Common.{arith, sym, ap, ◌∙◌, ⊎_elim}
@@ -36,7 +37,8 @@ same_plain a b e i =
           is_prop→PathP (λ i. IsTrue (is_plain_word (e i))) (λ i. Bool-set (is_plain_word (e i)) true) a.held b.held i;
     }
 
--- its facts are shown within it, so that an edit of what plain bounds mean is refused for its meaning
+-- its facts are shown within it, so that an edit of what plain bounds mean is refused for its
+-- meaning
 abbrev pub plain_kind : Kind PlainBound
 plain_kind =
     coded_kind (record {
@@ -50,7 +52,7 @@ plain_kind =
   where
     small : (z : ℤ) → unsigned_abs z ≤ largest_size → plain_word (plain_limit z) ≡ z
     small z s =
-        let below : int_le z (pos largest_size) ≡ true = sym (omega (arith, ints)) in
+        let below : IsTrue (int_le z (pos largest_size)) = sym (omega (arith, ints)) in
         ap plain_word (cond-true (int_le z (pos largest_size)) (number z false) unlimited below)
         ∙ cond-true (nat_le (unsigned_abs z) largest_size) z no_limit_word (le-leb (unsigned_abs z) largest_size s)
 
@@ -63,12 +65,13 @@ plain_kind =
     reads : (l : Limit) → Held false l → plain_limit (plain_word l) ≡ l
     reads (number c true) h = absurd (false≢true (h.takes refl))
     reads (number c false) h =
-        let below : int_le c (pos largest_size) ≡ true = sym (omega (arith, ints, h.small)) in
+        let below : IsTrue (int_le c (pos largest_size)) = sym (omega (arith, ints, h.small)) in
         ap plain_limit (cond-true (nat_le (unsigned_abs c) largest_size) c no_limit_word (le-leb (unsigned_abs c) largest_size h.small))
         ∙ cond-true (int_le c (pos largest_size)) (number c false) unlimited below
     reads unlimited h = refl
 
-    unmarked : (z : ℤ) (t : Bool) → IsTrue (limit_strict (if t then number z false else unlimited)) → IsTrue false
+    unmarked : (z : ℤ) (t : Bool) →
+        IsTrue (limit_strict (if t then number z false else unlimited)) → IsTrue false
     unmarked z true e = e
     unmarked z false e = e
 

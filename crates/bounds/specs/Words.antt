@@ -23,17 +23,20 @@ is_plain_word z = nat_le (unsigned_abs z) largest_size || int_eq z no_limit_word
 abbrev pub capped_word : ℤ → ℤ
 capped_word z = if nat_le (unsigned_abs z) largest_size then z else no_limit_word
 
-pub word_cases : (z : ℤ) → IsTrue (is_plain_word z) → (unsigned_abs z ≤ largest_size) ⊎ (z ≡ no_limit_word)
+pub word_cases : (z : ℤ) → IsTrue (is_plain_word z) →
+    (unsigned_abs z ≤ largest_size) ⊎ (z ≡ no_limit_word)
 word_cases z h = by_test (nat_le (unsigned_abs z) largest_size) refl h
   where
-    by_test : (t : Bool) → nat_le (unsigned_abs z) largest_size ≡ t → IsTrue (t || int_eq z no_limit_word) → (unsigned_abs z ≤ largest_size) ⊎ (z ≡ no_limit_word)
+    by_test : (t : Bool) → nat_le (unsigned_abs z) largest_size ≡ t →
+        IsTrue (t || int_eq z no_limit_word) → (unsigned_abs z ≤ largest_size) ⊎ (z ≡ no_limit_word)
     by_test true e h = inl (leb-true (unsigned_abs z) largest_size e)
     by_test false e h = inr ((Decides-int_eq z no_limit_word).0 h)
 
 pub capped_held : (z : ℤ) → IsTrue (is_plain_word (capped_word z))
 capped_held z = by_test (nat_le (unsigned_abs z) largest_size) refl
   where
-    by_test : (t : Bool) → nat_le (unsigned_abs z) largest_size ≡ t → IsTrue (is_plain_word (if t then z else no_limit_word))
+    by_test : (t : Bool) → nat_le (unsigned_abs z) largest_size ≡ t →
+        IsTrue (is_plain_word (if t then z else no_limit_word))
     by_test true e = grind (arith, ints)
     by_test false e = refl
 

@@ -1,4 +1,5 @@
-//! The interface of a kind of bounds. Its ghost member says what the bounds mean and that they keep the laws.
+//! The interface of a kind of bounds. Its ghost member says what the bounds mean and that they keep
+//! the laws.
 ghost use Rattle.bounds.specs.Kinds.{Kind, made};
 ghost use Rattle.std.specs.Prelude.{◌≡◌};
 

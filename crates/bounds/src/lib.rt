@@ -1,5 +1,6 @@
-//! Bounds on differences of ages: the interface of a kind with its laws, and two kinds that keep them.
-//! The kinds are two types and not one with a parameter, since a plain bound has no room for a mark.
+//! Bounds on differences of ages: the interface of a kind with its laws, and two kinds that keep
+//! them. The kinds are two types and not one with a parameter, since a plain bound has no room for
+//! a mark.
 #![tactic(auto)]
 
 pub mod bound;

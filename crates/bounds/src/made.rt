@@ -42,8 +42,8 @@ pub fn within_limits(number: i32) -> Result<i64, MakeError>
     }
 }
 
-/// The bound of a number, without its mark where the kind takes none; no limit where no bound is made
-/// of the number.
+/// The bound of a number, without its mark where the kind takes none; no limit where no bound is
+/// made of the number.
 pub fn bound_of<B: Bound>(number: i32, strict: bool) -> B
     ensures { result ≡ bound_of B.Bound.kind number strict }
 {

@@ -20,7 +20,8 @@ pub struct MarkedNumber {
 /// A bound that may be strict.
 #[derive(Clone, Copy, PartialEq, Eq, Debug)]
 pub struct MarkedBound {
-    /// 2c for c strict and 2c + 1 for c, so that bounds compare as words do; or the word for no limit
+    /// 2c for c strict and 2c + 1 for c, so that bounds compare as words do; or the word for no
+    /// limit
     limit: i64,
     ghost held: { IsTrue (is_marked_word limit) },
 }
@@ -35,7 +36,8 @@ impl MarkedNumber {
         strict: false,
     };
 
-    /// Whether the difference, in whole units, is at most the number, or less where the bound is strict.
+    /// Whether the difference, in whole units, is at most the number, or less where the bound is
+    /// strict.
     pub fn allows(self, difference: i64) -> bool
         ensures { result ≡ number_allows 1 self.number self.strict difference }
     {

@@ -1,4 +1,5 @@
--- What compact bounds mean: one integer, the bound's place in the order, or the largest 64-bit integer for no limit.
+-- What compact bounds mean: one integer, the bound's place in the order, or the largest 64-bit
+-- integer for no limit.
 --     half, even     of a place: the number, and whether it is strict
 use Rattle.std.specs.Prelude.{◌≡◌, ◌-◌, ◌%◌, ◌^◌, ◌≤◌, Bool, true, false, ℤ, pos, negsuc, ◌==◌}
 use Rattle.std.specs.Prelude.{unsigned_abs, refl, IsTrue, IsFalse, if◌then◌else◌}

@@ -1,4 +1,5 @@
--- The docket header and the initial tokens that bytes say, and what is wrong with bytes that say none.
+-- The docket header and the initial tokens that bytes say, and what is wrong with bytes that say
+-- none.
 --     header    initial tokens 4 bits, listed zones 6, spare 22; the most significant bit first
 --     token     place 6 bits, age 15, spare 3
 use Rattle.std.specs.Prelude.{ℕ, Bool, not, List, Result, ◌==◌}

@@ -13,7 +13,12 @@ abbrev pub partner_at : List ℕ → ℕ → ℕ
 partner_at bytes i = field bytes (7 + 4 * i) 4
 
 unfoldable pub voucher_of : List ℕ → Voucher
-voucher_of bytes = record { void = field bytes 0 1 == 1; zone = field bytes 1 6; partners = map (partner_at bytes) (range_with_len 0 8) }
+voucher_of bytes =
+    record {
+      void = field bytes 0 1 == 1;
+      zone = field bytes 1 6;
+      partners = map (partner_at bytes) (range_with_len 0 8);
+    }
 
 unfoldable pub voucher_spare : List ℕ → Bool
 voucher_spare bytes = not (field bytes 39 9 == 0)
@@ -24,8 +29,8 @@ voucher bytes = read_as voucher_size voucher_spare voucher_of bytes
 abbrev pub some_set : List ℕ → Bool
 some_set numbers = list_any (λ n. not (n == 0)) numbers
 
--- A field that is not used is not zero: a voucher that claims void uses no other field, one for a listed zone of so many tokens no
--- partner past them.
+-- A field that is not used is not zero: a voucher that claims void uses no other field, one for a
+-- listed zone of so many tokens no partner past them.
 abbrev pub unused_set : Voucher → ℕ → Bool
 unused_set v tokens =
     if v.void then not (v.zone == 0) || some_set v.partners else some_set (drop tokens v.partners)

@@ -1,7 +1,9 @@
 -- Zone records: the zone that their bytes say, and what is wrong with bytes that say none.
---     record     spare 4 bits, tokens 4, eight places of 6, spare 40, 72 bounds of 20; the most significant bit first
+--     record     spare 4 bits, tokens 4, eight places of 6, spare 40, 72 bounds of 20; the most
+--                significant bit first
 --     bounds     by rows, j = 0 to 8, in each row the columns i = 0 to 8 without i = j
---     bound      a mark, 1 bit, and a number, 19 bits in two's complement; the least number says no limit
+--     bound      a mark, 1 bit, and a number, 19 bits in two's complement; the least number says no
+--                limit
 -- A byte past the end reads as 0.
 use Rattle.std.specs.Prelude.{ℕ, ◌+◌, ◌-◌, ◌*◌, ◌^◌, min, Bool, not, ◌&&◌, ◌||◌, List, [], ◌∷◌, map}
 use Rattle.std.specs.Prelude.{length, ℤ, pos, ◌-ℤ◌, neg_ℤ, Some, None, Option, is_some, is_none}
@@ -73,7 +75,11 @@ bound_at kind bytes j i =
 
 -- the zone of at most 8 tokens
 abbrev pub zone_of : {B : Type 0} → Kind B → List ℕ → Zone B
-zone_of kind bytes = record { places = map (place_at bytes) (range_with_len 1 (min (tokens_of bytes) 8)); bound = bound_at kind bytes }
+zone_of kind bytes =
+    record {
+      places = map (place_at bytes) (range_with_len 1 (min (tokens_of bytes) 8));
+      bound = bound_at kind bytes;
+    }
 
 -- ---- what is wrong with a record
 -- p holds of some of the tokens 1 to 8

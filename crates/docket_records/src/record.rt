@@ -35,7 +35,8 @@ pub trait Record: Sized {
     /// The record that the bytes are, or what is wrong with them, lowest number first.
     final fn read(bytes: &[u8]) -> Result<Self, EntryRefusal>
         ensures answer { result ≡ read_as SIZE spare said bytes.now }
-        ensures number { AnswersNumber entry_number_of (first_number (size_rows SIZE spare bytes.now)) result }
+        ensures number { AnswersNumber entry_number_of
+            (first_number (size_rows SIZE spare bytes.now)) result }
     {
         if bytes.len() != Self::SIZE {
             return Err(EntryRefusal::WrongLength);
@@ -48,7 +49,8 @@ pub trait Record: Sized {
 
     /// The record that comes next. Where it is refused, its fault has its number.
     final fn next(reader: &mut Reader<'_>) -> Result<Self, EntryFault>
-        ensures answer { result ≡ placed reader.old.next (read_as SIZE spare said (take SIZE reader.old.rest)) }
+        ensures answer { result ≡ placed reader.old.next
+            (read_as SIZE spare said (take SIZE reader.old.rest)) }
         ensures moved { Moved SIZE reader.old result reader.new }
         ensures left { reader.new ≡ asked SIZE reader.old }
     {

@@ -66,8 +66,8 @@ fn some_set(numbers: &[u8]) -> bool
 }
 
 impl Voucher {
-    /// Whether a field that it does not use is not zero. Its listed zone has so many tokens; one for a
-    /// zone outside the list uses all eight partners.
+    /// Whether a field that it does not use is not zero. Its listed zone has so many tokens; one
+    /// for a zone outside the list uses all eight partners.
     pub fn unused_set(&self, tokens: u8) -> bool
         ensures { result ≡ unused_set self.now tokens }
     {

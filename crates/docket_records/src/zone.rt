@@ -95,6 +95,7 @@ fn entry_bound<B: Bound>(entry: RecordBound) -> B
 }
 
 impl<'a> ZoneRecord<'a> {
+    /// The record that the bytes are read as.
     pub fn new(bytes: &'a [u8]) -> ZoneRecord<'a>
         ensures { result.bytes.now ≡ bytes.now }
     {
@@ -119,7 +120,8 @@ impl<'a> ZoneRecord<'a> {
         bits(self.bytes, 8 + 6 * usize::from(token - 1), 6) as u8
     }
 
-    /// The bound of points `j` and `i`: zero where they are the same, and no limit past the last point.
+    /// The bound of points `j` and `i`: zero where they are the same, and no limit past the last
+    /// point.
     #[tactic(auto, using(crate::proofs::Sizes::number_small))]
     pub fn bound<B: Bound>(&self, j: u8, i: u8) -> B
         ensures { result ≡ bound_at B.Bound.kind self.now.bytes.now j i }
@@ -196,7 +198,8 @@ impl<'a> ZoneRecord<'a> {
 
     /// Tests the record under a net of so many places, lowest number first.
     pub fn check<B: Bound>(&self, places: u8) -> Result<(), EntryRefusal>
-        ensures answer { result ≡ tested tt (zone_fault B.Bound.kind.marks places self.now.bytes.now) }
+        ensures answer { result ≡
+            tested tt (zone_fault B.Bound.kind.marks places self.now.bytes.now) }
         ensures number { AnswersNumber entry_number_of
             (first_number (zone_rows B.Bound.kind.marks places self.now.bytes.now)) result }
     {

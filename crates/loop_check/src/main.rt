@@ -1,4 +1,5 @@
-//! Reads the bounds of a closed loop from standard input, one to a line, and prints their sum and the verdict.
+//! Reads the bounds of a closed loop from standard input, one to a line, and prints their sum and
+//! the verdict.
 #![tactic(auto)]
 
 use bounds::MarkedBound;

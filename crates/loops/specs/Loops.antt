@@ -1,5 +1,7 @@
--- A closed loop of timing constraints: its bounds limit differences that add up to 0 on the way round.
---     meets       differences, one for each bound, that the bounds allow on grid k and that add up to 0
+-- A closed loop of timing constraints: its bounds limit differences that add up to 0 on the way
+-- round.
+--     meets       differences, one for each bound, that the bounds allow on grid k and that add up
+--                 to 0
 --     verdict     the sum of the bounds, and whether any differences on any grid meet them
 use Rattle.std.specs.Prelude.{◌≡◌, ℕ, ◌+◌, ◌^◌, ◌<◌, ◌≤◌, ◌⊎◌, List, [], ◌∷◌, ◌++◌, map, length, ℤ}
 use Rattle.std.specs.Prelude.{pos, ◌+ℤ◌, Ok, Err, Result, IsTrue, IsFalse}
@@ -52,7 +54,8 @@ pub record Meets {B : Type 0} (kind : Kind B) (k : ℕ) (bs : List B) (ds : List
   pub allowed : AllAllowed kind k bs ds
   pub closed : added ds ≡ pos 0
 
--- every line says its bound; the sum is theirs; and the loop is possible just where some differences meet it
+-- every line says its bound; the sum is theirs; and the loop is possible just where some
+-- differences meet it
 pub record Summed {B : Type 0} (kind : Kind B) (text : List ℕ) (v : Verdict B) : Type 0 where
   pub bounds : List B
   pub said : map (line_bound kind) (lines text) ≡ map Ok bounds

@@ -47,7 +47,8 @@ impl BadLine {
 /// The sum with the bound of the line after `count` good ones.
 fn add_line<B: Bound>(sum: B, line: &[u8], count: u32) -> Result<B, BadLine>
     requires { count ≤ most_lines }
-    ensures { result ≡ named count (with_bound B.Bound.kind sum (line_bound B.Bound.kind line.now)) }
+    ensures { result ≡
+        named count (with_bound B.Bound.kind sum (line_bound B.Bound.kind line.now)) }
 {
     read_bound::<B>(line)
         .map(|bound| sum.sum(bound))
@@ -58,7 +59,8 @@ fn add_line<B: Bound>(sum: B, line: &[u8], count: u32) -> Result<B, BadLine>
 pub fn judge<B: Bound>(text: &[u8]) -> Result<Verdict<B>, BadLine>
     ensures { Judged B.Bound.kind text.now result }
 {
-    // Pieces of `split` are no lines: an empty text has one, and a last line feed has one behind it.
+    // Pieces of `split` are no lines: an empty text has one, and a last line feed has one behind
+    // it.
     let mut rest = text;
     let mut sum = B::zero();
     for count in 0..MOST_LINES {

@@ -1,4 +1,5 @@
-//! Closed loops of timing constraints: bounds, one to a line, added up, and whether any timing meets them.
+//! Closed loops of timing constraints: bounds, one to a line, added up, and whether any timing
+//! meets them.
 #![tactic(auto)]
 
 pub mod judging;

@@ -30,7 +30,8 @@ fn natural(text: &[u8]) -> Option<u32>
         return None;
     }
     let mut number = 0;
-    // `try_fold` asks that its closure may be called at every number, and ten times a number past `PAST` may not fit.
+    // `try_fold` asks that its closure may be called at every number, and ten times a number past
+    // `PAST` may not fit.
     for b in text {
         if !b.is_ascii_digit() {
             return None;

@@ -1,4 +1,5 @@
--- The net of a line with two stops and one handover, and the proof that it keeps the limits of every net.
+-- The net of a line with two stops and one handover, and the proof that it keeps the limits of
+-- every net.
 use Rattle.std.specs.Prelude.{ℕ, ◌≤◌, false, [], ◌∷◌, pos, neg_ℤ}
 use Rattle.std.proofs.Common.{arith, sym}
 use Rattle.std.proofs.lemmas.Int.{ints}
@@ -11,7 +12,11 @@ use Rattle.nets.specs.Nets.{Transition, Net, RangeLimits, Limits, largest_end}
 
 -- the ages from lower to upper, both ends included
 abbrev pub ages : {B : Type 0} → Kind B → ℕ → ℕ → Range B
-ages kind lower upper = record { upper = kind.number (pos upper) false; lower = kind.number (neg_ℤ (pos lower)) false }
+ages kind lower upper =
+    record {
+      upper = kind.number (pos upper) false;
+      lower = kind.number (neg_ℤ (pos lower)) false;
+    }
 
 -- takes from place 0 a token whose age is from lower to upper, and puts one of age 0 to place 1
 abbrev pub handover : ℕ → ℕ → Transition PlainBound
@@ -41,10 +46,22 @@ handover_limits lower upper ordered small =
         record {
           few_inputs = omega arith;
           few_outputs = omega arith;
-          inputs =
-              (record { place = omega arith; range = ages_limits plain_kind lower upper ordered small }, tt);
-          outputs =
-              (record { place = omega arith; range = ages_limits plain_kind 0 0 (omega arith) (omega arith) }, tt);
+          inputs = (
+            record {
+              place =
+                  omega arith;
+              range = ages_limits plain_kind lower upper ordered small;
+            },
+            tt,
+          );
+          outputs = (
+            record {
+              place =
+                  omega arith;
+              range = ages_limits plain_kind 0 0 (omega arith) (omega arith);
+            },
+            tt,
+          );
         },
         tt,
       );

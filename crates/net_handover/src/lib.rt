@@ -19,8 +19,8 @@ pub struct Handover {
 }
 
 impl Handover {
-    /// None where the lower end is past the upper one, or the upper one past the largest; either way there
-    /// is no such range.
+    /// None where the lower end is past the upper one, or the upper one past the largest; either
+    /// way there is no such range.
     pub fn new(lower: u16, upper: u16) -> Option<Handover>
         ensures { MatchOption result
             ((upper < lower) ⊎ (largest_end < upper))

@@ -1,4 +1,5 @@
-//! The line as a net store: places 0 and 1, and one transition, which is number 1 and has one arc on each side.
+//! The line as a net store: places 0 and 1, and one transition, which is number 1 and has one arc
+//! on each side.
 ghost use Rattle.net_handover.specs.HandoverNet.{handover_net};
 
 use crate::Handover;
@@ -23,7 +24,8 @@ impl NetStore<PlainBound> for Handover {
         u8::from(transition == 1)
     }
 
-    /// The arcs are these two, so a match says each answer; the input arc has place 0, which is also the answer where there is no such arc.
+    /// The arcs are these two, so a match says each answer; the input arc has place 0, which is
+    /// also the answer where there is no such arc.
     fn place(&self, transition: u8, side: Side, arc: u8) -> u8 {
         match (transition, side, arc) {
             (1, Side::Output, 1) => 1,

@@ -28,7 +28,8 @@ abbrev pub answer_of : {T R : Type 0} → T → List (Row R) → Result T R
 answer_of x [] = Ok x
 answer_of x (r ∷ rows) = if r.holds then Err r.refusal else answer_of x rows
 
--- an answer by number: a refusal has the first number that holds, and there is none where all went well
+-- an answer by number: a refusal has the first number that holds, and there is none where all went
+-- well
 abbrev pub AnswersNumber : {T E : Type 0} → (E → ℕ) → Option ℕ → Result T E → Type 0
 AnswersNumber number first (Ok x) = first ≡ None
 AnswersNumber number first (Err refusal) = first ≡ Some (number refusal)

@@ -1,5 +1,5 @@
-//! Records in borrowed bytes: a reader, headers, transitions and their slots, faults, and the packed
-//! net store.
+//! Records in borrowed bytes: a reader, headers, transitions and their slots, faults, and the
+//! packed net store.
 #![tactic(auto)]
 
 pub mod fault;

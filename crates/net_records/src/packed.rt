@@ -1,4 +1,5 @@
-//! The packed net store: net records in borrowed bytes, tested first. Each arc is decoded where it lies.
+//! The packed net store: net records in borrowed bytes, tested first. Each arc is decoded where it
+//! lies.
 ghost use Rattle.net_records.specs.NetBytes.{after_net, arcs_at, has_transition, net_of};
 ghost use Rattle.net_records.specs.NetBytes.{side_count};
 ghost use Rattle.net_records.specs.NetBytes.{side_start, slot_at, transition_bytes};
@@ -27,7 +28,8 @@ pub struct PackedNet<'a> {
 }
 
 fn has_arc(bytes: &[u8; TransitionRecord::SIZE], side: Side, arc: u8) -> bool
-    ensures { result ≡ (nat_le 1 arc && nat_le arc (side_count side (transition_record bytes.now))) }
+    ensures { result ≡
+        (nat_le 1 arc && nat_le arc (side_count side (transition_record bytes.now))) }
 {
     (1..=side_count(bytes[0], side)).contains(&arc)
 }
@@ -95,7 +97,8 @@ impl<'a> PackedNet<'a> {
             .map_or(0, |bytes| side_count(bytes[0], side))
     }
 
-    /// The slot of an arc, if there is such an arc. An arc is named by these three as net stores name it.
+    /// The slot of an arc, if there is such an arc. An arc is named by these three as net stores
+    /// name it.
     pub fn slot(&self, transition: u8, side: Side, arc: u8) -> Option<Slot>
         ensures { result ≡ slot_at self.now.bytes.now transition side arc }
     {

@@ -56,7 +56,8 @@ impl<'a> Reader<'a> {
         self.next
     }
 
-    /// The next record, of this many bytes and at least one. Where they are not there, nothing moves.
+    /// The next record, of this many bytes and at least one. Where they are not there, nothing
+    /// moves.
     pub fn part(&mut self, size: usize) -> Result<Part<'a>, Missing>
         ensures { Parted size self.old result self.new }
     {

@@ -59,7 +59,8 @@ fn check_sums<B: Bound>(rt: &impl Abort) -> Result<(), Fail> {
     Ok(())
 }
 
-/// Strict bounds, where a kind has them: 3 strict stands just below 3, and 3 strict with -3 below zero.
+/// Strict bounds, where a kind has them: 3 strict stands just below 3, and 3 strict with -3 below
+/// zero.
 #[cfg(test)]
 fn check_marks<B: Bound>(rt: &impl Abort) -> Result<(), Fail> {
     assert!(rt; takes::<B>(262_143, true).is_ok());

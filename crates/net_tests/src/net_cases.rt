@@ -82,7 +82,8 @@ mod tests {
     use std::process::Abort;
     use std::test::Fail;
 
-    /// One transition under a header of this first byte: the number that it is refused with, if any.
+    /// One transition under a header of this first byte: the number that it is refused with, if
+    /// any.
     fn check_case(
         rt: &impl Abort,
         heap: Global,

@@ -1,4 +1,5 @@
--- The ages that a range allows, written for people: age 1 to 2, age above 1 to below 5, age 3 or more.
+-- The ages that a range allows, written for people: age 1 to 2, age above 1 to below 5, age 3 or
+-- more.
 use Rattle.std.specs.Prelude.{ℕ, Bool, not, ◌&&◌, List, ◌++◌, Some, None, Option, codes}
 use Rattle.std.specs.Prelude.{decimal, ◌==◌, if◌then◌else◌}
 use Rattle.net_records.specs.declared.slot.End.{End}

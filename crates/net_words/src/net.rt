@@ -75,7 +75,8 @@ impl<'a> fmt::Display for NetLines<'a> {
     }
 }
 
-/// What the bytes say, line by line: the net, or in one line why they are refused. The only error is memory that is not there.
+/// What the bytes say, line by line: the net, or in one line why they are refused. The only error
+/// is memory that is not there.
 pub fn explain(heap: Global, bytes: &[u8]) -> Result<String, AllocError>
     ensures { IfOk result (λ s. string_bytes s ≡ explained_text bytes.now) }
 {

@@ -34,7 +34,8 @@ pub record Ended {B : Type 0} (kind : Kind B) (sign : ℕ → ℤ) (b : B) : Typ
   pub takes : IsTrue strict → IsTrue kind.marks
   pub is : b ≡ kind.number (sign end) strict
 
--- both ends lie from 0 to 32767, the upper one perhaps without limit, and some age on some grid may lie between them
+-- both ends lie from 0 to 32767, the upper one perhaps without limit, and some age on some grid may
+-- lie between them
 pub record RangeLimits {B : Type 0} (kind : Kind B) (range : Range B) : Type 0 where
   pub lower : Ended kind (λ n. neg_ℤ (pos n)) range.lower
   pub upper : (range.upper ≡ kind.no_limit) ⊎ Ended kind pos range.upper

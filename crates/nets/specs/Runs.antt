@@ -1,6 +1,7 @@
 -- Delays, firings and runs on grid k.
 --     delay     one amount, zero or more, is added to every age
---     firing    one token for each input arc is removed, and one for each output arc added; the others stay
+--     firing    one token for each input arc is removed, and one for each output arc added; the
+--               others stay
 --     run       a finite list, perhaps empty, of delays and firings
 use Rattle.std.specs.Prelude.{ℕ, ◌≤◌, List, ◌++◌, length}
 use Rattle.bounds.specs.Kinds.{Kind}

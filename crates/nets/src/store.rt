@@ -1,12 +1,13 @@
-//! The interface of a net store: its ghost member is the net that it means, and every answer is that net's.
+//! The interface of a net store: its ghost member is the net that it means, and every answer is
+//! that net's.
 ghost use Rattle.nets.specs.Nets.{Net, Limits, arcs_of, arc_of};
 ghost use Rattle.std.specs.Prelude.{◌≡◌, length};
 
 use crate::side::Side;
 use bounds::{Bound, Range};
 
-/// An arc is named by its transition, its side and its number. Callers have the three apart and hand them on at once, so a struct of
-/// them would be made at every call and be no plainer.
+/// An arc is named by its transition, its side and its number. Callers have the three apart and
+/// hand them on at once, so a struct of them would be made at every call and be no plainer.
 pub trait NetStore<B: Bound> {
     ghost net: { Self → Net B };
 

@@ -1,6 +1,7 @@
 //! Net records made by hand: one transition of one input and one output arc.
 use std::alloc::{AllocError, Global};
 
+/// A slot that is not used.
 pub const UNUSED: [u8; 5] = [0; 5];
 
 /// By the header's four bytes, and the slots of the two arcs.

@@ -4,25 +4,34 @@ use std::alloc::{AllocError, Global};
 /// Codes of bounds; negative numbers in two's complement of 19 bits, a mark before them.
 pub const NO_LIMIT: u32 = 0x40000;
 
+/// No limit with a mark, which no record may have.
 pub const MARKED_NO_LIMIT: u32 = 0xc0000;
 
+/// At most −1.
 pub const MINUS_1: u32 = 0x7ffff;
 
+/// At most −2.
 pub const MINUS_2: u32 = 0x7fffe;
 
+/// At most −3.
 pub const MINUS_3: u32 = 0x7fffd;
 
+/// At most −5.
 pub const MINUS_5: u32 = 0x7fffb;
 
+/// Less than 0.
 pub const STRICT_0: u32 = 0x80000;
 
-/// Marked -1 and -2 in the clock's row: ages above 1 and above 2.
+/// Marked −1 in the clock's row: ages above 1.
 pub const ABOVE_1: u32 = 0xfffff;
 
+/// Marked −2: ages above 2.
 pub const ABOVE_2: u32 = 0xffffe;
 
+/// Less than 2.
 pub const BELOW_2: u32 = 0x80002;
 
+/// Less than 3.
 pub const BELOW_3: u32 = 0x80003;
 
 /// The code of the bound of two points; those that are not listed have no limit.
@@ -38,7 +47,8 @@ pub const TWO: [Listed; 6] = [
     (2, 1, 4),
 ];
 
-/// The format's own count, apart from what the crate `entries` makes of it: a test by that would find its faults right.
+/// The format's own count, apart from what the crate `docket_records` makes of it: a test by that would
+/// find its faults right.
 fn entry_number(j: u8, i: u8) -> usize {
     let column = if j < i { i - 1 } else { i };
     8 * usize::from(j) + usize::from(column)

@@ -2,7 +2,8 @@
 use Rattle.std.specs.Prelude.{◌≡◌, ℕ, ◌+◌, ◌<◌, ◌≤◌, ◌==◌, if◌then◌else◌}
 use Rattle.std.specs.Prelude.{List, [], ◌∷◌, length, slice_index_or, Some, None, Option}
 use Rattle.bounds.specs.Kinds.{Kind}
-use Rattle.nets.specs.Nets.{Arc, Every, Net, Transition, transition_of}
+use Rattle.nets.specs.Nets.{Arc, Every, Net, Transition, arcs_of, transition_of}
+use Rattle.nets.specs.declared.side.Side.TheVariants.{Input, Output}
 use Rattle.zones.specs.Predecessors.{staying}
 use Rattle.zones.specs.Zones.{Zone}
 use Rattle.zone_closed_forms.specs.ClosedForms.{ClockRows, begun, delayed_rows, fired_zone}
@@ -14,6 +15,7 @@ use Rattle.zone_walks.specs.Walks.{Matrix}
 use Rattle.zone_pages.specs.declared.book.Page.{Page}
 use Rattle.docket_dues.specs.Answered.{SameZone, digits}
 use Rattle.docket_dues.specs.declared.item.Item.{Item}
+use Rattle.docket_vouching.specs.Rows.{rows_in}
 use Rattle.docket_vouching.specs.declared.asked.AskedZone.{AskedZone}
 use Rattle.docket_vouching.specs.declared.work.Parts.{Parts}
 
@@ -90,3 +92,32 @@ pub record WorksOut {B : Type 0} (kind : Kind B) (net : Net B) (z : Zone B) (d :
 -- the zone that the cells of a page, the rows in other cells and the parts are
 abbrev pub shown : {B : Type 0} → Kind B → AskedZone B → Zone B
 shown kind a = own_zone kind (in_page kind a.page.now) (rows_at kind a.rows.now) a.parts.now
+
+-- ---- over a page, with the zone's rows in two slices
+abbrev pub OwnIs : {B : Type 0} → Kind B → Page B → (up low : List B) → Zone B → Parts → Type 0
+OwnIs kind page up low asked parts =
+    SameZone asked (own_zone kind (in_page kind page.cells.now) (rows_in kind up low) parts)
+
+abbrev pub WorkedIs : {B : Type 0} → Kind B → Page B → (up low : List B) →
+    Option (Zone B) → Option Parts → Type 0
+WorkedIs kind page up low asked answer =
+    WorkedOut kind (in_page kind page.cells.now) (rows_in kind up low) asked answer
+
+-- without the matched tokens and with those of the input arcs
+abbrev pub replaced_zone : {B : Type 0} → Kind B → Net B → (transition : ℕ) → List ℕ → Page B →
+    (page_up page_low : List B) → Zone B
+replaced_zone kind net transition matching page page_up page_low =
+    spread_zone kind (zone_of kind page) (staying matching (zone_of kind page))
+    (arcs_of net transition Input) (rows_in kind page_up page_low)
+
+abbrev pub fired_over : {B : Type 0} → Kind B → Net B → (transition : ℕ) → List ℕ → Page B →
+    Option (Zone B)
+fired_over kind net transition matching page =
+    fired_from kind (transition_of net transition) matching (zone_of kind page)
+    (narrowed_from kind (arcs_of net transition Output) matching (in_page kind page.cells.now))
+
+abbrev pub WorksIn : {B : Type 0} → Kind B → Net B → Page B → Item → (up low : List B) →
+    Option Parts → Type 0
+WorksIn kind net page d up low answer =
+    PageDigits (digits net d.transition d.matching) →
+    WorkedIs kind page up low (zone_asked kind net (zone_of kind page) d) answer

@@ -4,6 +4,7 @@ use Rattle.bounds.specs.Kinds.{Kind}
 use Rattle.nets.specs.Nets.{Arc}
 use Rattle.zone_cells.specs.Cells.{arc_at}
 use Rattle.zone_closed_forms.specs.ClosedForms.{ClockRows, spread}
+use Rattle.docket_vouching.specs.Rows.{rows_in}
 use Rattle.zone_closed_forms.specs.ClockRows.{Alike}
 
 abbrev pub KeptRow : {B : Type 0} → Kind B → List ℕ → List B → List B → Type 0
@@ -20,6 +21,7 @@ pub record AddedBehind {B : Type 0} (kind : Kind B) (arcs : List (Arc B)) (first
 
 -- the rows of the kept points and of the arcs' tokens, so many points in all
 abbrev pub SpreadOver : {B : Type 0} → Kind B → List ℕ → List (Arc B) →
-    (page own : ClockRows B) → Type 0
-SpreadOver kind kept arcs page own =
-    Alike (length kept + length arcs) (spread kind kept arcs page) own
+    (page_up page_low up low : List B) → Type 0
+SpreadOver kind kept arcs page_up page_low up low =
+    Alike (length kept + length arcs) (spread kind kept arcs (rows_in kind page_up page_low))
+    (rows_in kind up low)

@@ -3,6 +3,7 @@ use Rattle.std.specs.Prelude.{◌≡◌, ℕ, ◌+◌, ◌<◌, Bool, if◌then�
 use Rattle.std.specs.Prelude.{List, slice_index_or, Some, None}
 use Rattle.bounds.specs.Kinds.{Kind}
 use Rattle.nets.specs.Nets.{Arc}
+use Rattle.zone_cells.specs.Cells.{in_page}
 use Rattle.zone_cells.specs.Sizes.{page_row}
 use Rattle.zone_walks.specs.Walks.{Matrix, lesser}
 use Rattle.zone_closed_forms.specs.ClosedForms.{ClockRows, all_narrowed, least_below}
@@ -30,15 +31,17 @@ abbrev pub RowsAre : {B : Type 0} → Kind B → ClockRows B → List B → List
 RowsAre kind rows up low = Alike page_row rows (rows_in kind up low)
 
 -- one arc is done, and false says that its range left its token no age
-abbrev pub OneNarrowed : {B : Type 0} → Kind B → Matrix B → List (Arc B) → List ℕ → ℕ →
-    (before after : ClockRows B) → Bool → Type 0
-OneNarrowed kind x arcs matching a before after answer =
-    AlikeOr page_row (narrowed_on kind x arcs matching a before)
-    (if answer then narrowed_on kind x arcs matching (a + 1) after else None)
+abbrev pub OneNarrowed : {B : Type 0} → Kind B → (page : List B) → List (Arc B) → List ℕ → ℕ →
+    (up low next_up next_low : List B) → Bool → Type 0
+OneNarrowed kind page arcs matching a up low next_up next_low answer =
+    AlikeOr page_row (narrowed_on kind (in_page kind page) arcs matching a (rows_in kind up low))
+    (if answer
+    then narrowed_on kind (in_page kind page) arcs matching (a + 1) (rows_in kind next_up next_low)
+    else None)
 
 -- all arcs are done, and false says that a range left its token no age
-abbrev pub AllNarrowed : {B : Type 0} → Kind B → Matrix B → List (Arc B) → List ℕ →
-    (before after : ClockRows B) → Bool → Type 0
-AllNarrowed kind x arcs matching before after answer =
-    AlikeOr page_row (all_narrowed kind x arcs matching before)
-    (if answer then Some after else None)
+abbrev pub AllNarrowed : {B : Type 0} → Kind B → (page : List B) → List (Arc B) → List ℕ →
+    (up low next_up next_low : List B) → Bool → Type 0
+AllNarrowed kind page arcs matching up low next_up next_low answer =
+    AlikeOr page_row (all_narrowed kind (in_page kind page) arcs matching (rows_in kind up low))
+    (if answer then Some (rows_in kind next_up next_low) else None)

@@ -64,7 +64,7 @@ pub(crate) fn spread_rows<B: Bound, N: NetStore<B>>(
     ensures low { length low.new ≡ 13 }
     ensures rows { SpreadOver B.Bound.kind kept.now
         (arcs_of (N.NetStore.net store.now) transition Input)
-        (rows_in B.Bound.kind page_up.now page_low.now) (rows_in B.Bound.kind up.new low.new) }
+        page_up.now page_low.now up.new low.new }
 {
     keep(kept, page_up, up);
     keep(kept, page_low, low);

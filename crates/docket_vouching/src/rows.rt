@@ -72,9 +72,9 @@ fn narrow_by<B: Bound, N: NetStore<B>>(
     requires low { length low.old ≡ 9 }
     ensures up { length up.new ≡ 9 }
     ensures low { length low.new ≡ 9 }
-    ensures rows { OneNarrowed B.Bound.kind (in_page B.Bound.kind page.now)
+    ensures rows { OneNarrowed B.Bound.kind page.now
         (arcs_of (N.NetStore.net store.now) transition Output) matching.now arc
-        (rows_in B.Bound.kind up.old low.old) (rows_in B.Bound.kind up.new low.new) result }
+        up.old low.old up.new low.new result }
 {
     let token = byte(matching, usize::from(arc));
     if token == 0 {
@@ -104,9 +104,9 @@ pub(crate) fn narrow_matched<B: Bound, N: NetStore<B>>(
     requires low { length low.old ≡ 9 }
     ensures up { length up.new ≡ 9 }
     ensures low { length low.new ≡ 9 }
-    ensures rows { AllNarrowed B.Bound.kind (in_page B.Bound.kind page.now)
+    ensures rows { AllNarrowed B.Bound.kind page.now
         (arcs_of (N.NetStore.net store.now) transition Output) matching.now
-        (rows_in B.Bound.kind up.old low.old) (rows_in B.Bound.kind up.new low.new) result }
+        up.old low.old up.new low.new result }
 {
     for arc in 0..store.arcs(transition, Side::Output) {
         if !narrow_by(store, transition, matching, arc, page, up, low) {

@@ -1,16 +1,11 @@
 //! Works out the zone that an item asks for.
-ghost use Rattle.docket_dues.specs.Answered.{SameZone, digits as digits_for};
-ghost use Rattle.docket_vouching.specs.Asked.{PageDigits, WorkedOut, WorksOut, own_zone, zone_of};
-ghost use Rattle.docket_vouching.specs.Asked.{delayed_kept, fired_from, spread_zone};
-ghost use Rattle.docket_vouching.specs.Asked.{whole_zone, zone_asked};
+ghost use Rattle.docket_vouching.specs.Asked.{OwnIs, PageDigits, WorkedIs, WorksIn, WorksOut};
+ghost use Rattle.docket_vouching.specs.Asked.{delayed_kept, fired_over, replaced_zone};
+ghost use Rattle.docket_vouching.specs.Asked.{whole_zone, zone_of};
 ghost use Rattle.docket_vouching.specs.Means.{MeansItem};
-ghost use Rattle.docket_vouching.specs.Rows.{rows_in};
-ghost use Rattle.nets.specs.Nets.{Every, arcs_of, transition_of};
-ghost use Rattle.nets.specs.declared.side.Side.TheVariants.{Input, Output};
+ghost use Rattle.nets.specs.Nets.{Every, arcs_of};
+ghost use Rattle.nets.specs.declared.side.Side.TheVariants.{Output};
 ghost use Rattle.std.specs.Prelude.{◌≡◌, ◌≤◌, ◌<◌, ◌↔◌, IsTrue, length};
-ghost use Rattle.zone_cells.specs.Cells.{in_page};
-ghost use Rattle.zone_closed_forms.specs.ClosedForms.{narrowed_from};
-ghost use Rattle.zones.specs.Predecessors.{staying};
 
 use crate::own::spread_rows;
 use crate::points::{Points, all_places, staying};
@@ -51,13 +46,9 @@ fn replace<B: Bound, N: NetStore<B>>(
     requires low { length low.old ≡ 13 }
     ensures up { length up.new ≡ 13 }
     ensures low { length low.new ≡ 13 }
-    ensures zone { SameZone
-        (spread_zone B.Bound.kind (zone_of B.Bound.kind page.now)
-        (staying matching.now (zone_of B.Bound.kind page.now))
-        (arcs_of (N.NetStore.net store.now) transition Input)
-        (rows_in B.Bound.kind page_up.now page_low.now))
-        (own_zone B.Bound.kind (in_page B.Bound.kind page.now.cells.now)
-        (rows_in B.Bound.kind up.new low.new) result) }
+    ensures zone { OwnIs B.Bound.kind page.now up.new low.new
+        (replaced_zone B.Bound.kind (N.NetStore.net store.now) transition matching.now page.now
+        page_up.now page_low.now) result }
 {
     let kept = staying(page.places.len() as u8, matching);
     spread_rows(store, transition, &kept, page_up, page_low, up, low);
@@ -83,9 +74,8 @@ fn whole<B: Bound, N: NetStore<B>>(
     ensures low { length low.new ≡ 13 }
     ensures page_up { length page_up.new ≡ 9 }
     ensures page_low { length page_low.new ≡ 9 }
-    ensures zone { SameZone (whole_zone B.Bound.kind (zone_of B.Bound.kind page.now))
-        (own_zone B.Bound.kind (in_page B.Bound.kind page.now.cells.now)
-        (rows_in B.Bound.kind up.new low.new) result) }
+    ensures zone { OwnIs B.Bound.kind page.now up.new low.new
+        (whole_zone B.Bound.kind (zone_of B.Bound.kind page.now)) result }
 {
     begin(page.cells, page_up, page_low);
     replace(store, 0, &[], page, page_up, page_low, up, low)
@@ -109,9 +99,8 @@ fn delayed<B: Bound, N: NetStore<B>>(
     ensures low { length low.new ≡ 13 }
     ensures page_up { length page_up.new ≡ 9 }
     ensures page_low { length page_low.new ≡ 9 }
-    ensures zone { SameZone (delayed_kept B.Bound.kind (zone_of B.Bound.kind page.now))
-        (own_zone B.Bound.kind (in_page B.Bound.kind page.now.cells.now)
-        (rows_in B.Bound.kind up.new low.new) result) }
+    ensures zone { OwnIs B.Bound.kind page.now up.new low.new
+        (delayed_kept B.Bound.kind (zone_of B.Bound.kind page.now)) result }
 {
     delay(page.cells, page.places.len() as u8, page_up, page_low);
     replace(store, 0, &[], page, page_up, page_low, up, low)
@@ -140,12 +129,9 @@ fn fired<B: Bound, N: NetStore<B>>(
     ensures low { length low.new ≡ 13 }
     ensures page_up { length page_up.new ≡ 9 }
     ensures page_low { length page_low.new ≡ 9 }
-    ensures zone { WorkedOut B.Bound.kind (in_page B.Bound.kind page.now.cells.now)
-        (rows_in B.Bound.kind up.new low.new)
-        (fired_from B.Bound.kind (transition_of (N.NetStore.net store.now) transition) matching.now
-        (zone_of B.Bound.kind page.now)
-        (narrowed_from B.Bound.kind (arcs_of (N.NetStore.net store.now) transition Output)
-        matching.now (in_page B.Bound.kind page.now.cells.now))) result }
+    ensures zone { WorkedIs B.Bound.kind page.now up.new low.new
+        (fired_over B.Bound.kind (N.NetStore.net store.now) transition matching.now page.now)
+        result }
 {
     begin(page.cells, page_up, page_low);
     if !narrow_matched(store, transition, matching, page.cells, page_up, page_low) {
@@ -182,11 +168,7 @@ fn work_in<B: Bound, N: NetStore<B>>(
     ensures low { length low.new ≡ 13 }
     ensures page_up { length page_up.new ≡ 9 }
     ensures page_low { length page_low.new ≡ 9 }
-    ensures zone { PageDigits
-        (digits_for (N.NetStore.net store.now) item.transition item.matching) →
-        WorkedOut B.Bound.kind (in_page B.Bound.kind page.now.cells.now)
-        (rows_in B.Bound.kind up.new low.new)
-        (zone_asked B.Bound.kind (N.NetStore.net store.now) (zone_of B.Bound.kind page.now) item)
+    ensures zone { WorksIn B.Bound.kind (N.NetStore.net store.now) page.now item up.new low.new
         result }
 {
     match (item.zone, item.transition) {

@@ -1,20 +1,21 @@
 -- That the answer to a voucher is its table's, and that an item is answered by one that is taken.
 use Rattle.std.proofs.Common.{◌≡◌, ℕ, zero, suc, Bool, true, false, cond, leb, List, [], ◌∷◌, is_err, Ok, Err, Some, None, Option, sym, refl, ap, ◌∙◌, subst, inl, inr, arith}
 use Rattle.std.proofs.lemmas.Bool.{and_parts, both_ways, leb-true, true≢false}
-use Rattle.arrayvec.specs.ArrayVec.{ArrayVec}
 use Rattle.zone_pages.specs.Objections.{objection_number, objection_of}
 use Rattle.zone_pages.specs.declared.objections.Objection.{Objection}
 use Rattle.zone_pages.specs.declared.objections.Objection.TheVariants.{Partner, Place, Bound}
 use Rattle.bounds.specs.Kinds.{Kind}
-use Rattle.zone_cells.specs.Drafts.{draft_zone}
-use Rattle.docket.specs.Discharging.{judged, objected}
+use Rattle.zone_cells.specs.Cells.{in_page}
+use Rattle.docket.specs.Discharging.{judged, objected, zone_worked}
 use Rattle.docket.proofs.Named.{as_many, itself, page_named}
 use Rattle.docket_rules.proofs.Objected.{Tried, same_objection, unobjected}
 use Rattle.docket_dues.specs.Answered.{Answered, ItemZone, SameZone, VoidItem, zone_named}
 use Rattle.docket_dues.specs.declared.item.Item.{Item}
 use Rattle.docket_dues.proofs.Answered.{void_answered, vouched_answered}
 use Rattle.docket_records.specs.declared.voucher.Voucher.{Voucher}
-use Rattle.docket_items.specs.Made.{ItemAnswer}
+use Rattle.docket_vouching.specs.Asked.{own_zone, rows_at}
+use Rattle.docket_vouching.specs.Means.{PartsAnswer}
+use Rattle.docket_vouching.specs.declared.work.Parts.{Parts}
 use Rattle.nets.specs.Nets.{Net}
 use Rattle.docket_refusals.specs.declared.refusal.CallRefusal.TheVariants.{NotVoid, VoidItem as IsVoid, NoSuchZone}
 use Rattle.docket_rules.specs.Calls.{is_early}
@@ -36,16 +37,16 @@ objected_late : (r : Tried) → is_early (objected r) ≡ false
 objected_late (Ok u) = refl
 objected_late (Err o) = refl
 
-pub judged_late : {B : Type 0} (kind : Kind B) (w : World B) (v : Voucher) (draft : List B) (asked : Option (ArrayVec ℕ)) → is_early (judged kind w v draft asked) ≡ false
-judged_late kind w v draft None = by v.void
+pub judged_late : {B : Type 0} (kind : Kind B) (w : World B) (v : Voucher) (asked : Option (Zone B)) → is_early (judged kind w v asked) ≡ false
+judged_late kind w v None = by v.void
   where
     by : (void : Bool) → is_early (cond void (Ok tt) (Err IsVoid)) ≡ false
     by true = refl
     by false = refl
-judged_late kind w v draft (Some tokens) = by v.void (in_list w.state v.zone)
+judged_late kind w v (Some asked) = by v.void (in_list w.state v.zone)
   where
     stands : Tried
-    stands = objection_of kind (page_of kind w v.zone) (draft_zone kind tokens.items draft) (pairing_of w.state v)
+    stands = objection_of kind (page_of kind w v.zone) asked (pairing_of w.state v)
 
     by : (void listed : Bool) → is_early (cond void (Err NotVoid) (cond listed (objected stands) (Err NoSuchZone))) ≡ false
     by true listed = refl
@@ -118,11 +119,11 @@ module _ {B : Type 0} (kind : Kind B) (net : Net B) (w : World B) (d : Item) (v 
     asked_answered false true among e = by_listed among (not_objected stands e)
 
   -- ---- either
-  module _ (draft : List B) where
-    pub judged_answers : (asked : Option (ArrayVec ℕ)) → ItemAnswer kind net (page_of kind w 0) (listed_pages kind w) d draft asked → Answers (item_rules kind net w.state (page_of kind w) d v) (judged kind w v draft asked)
+  module _ (page rows : List B) where
+    pub judged_answers : (parts : Option Parts) → PartsAnswer kind net (page_of kind w 0) (listed_pages kind w) d page rows parts → Answers (item_rules kind net w.state (page_of kind w) d v) (judged kind w v (zone_worked kind page rows parts))
     judged_answers None made = void_answers made v.void refl
-    judged_answers (Some tokens) made = asked_answers (draft_zone kind tokens.items draft) made v.void (in_list w.state v.zone) refl refl
+    judged_answers (Some parts) made = asked_answers (own_zone kind (in_page kind page) (rows_at kind rows) parts) made v.void (in_list w.state v.zone) refl refl
 
-    pub judged_answered : (asked : Option (ArrayVec ℕ)) → ItemAnswer kind net (page_of kind w 0) (listed_pages kind w) d draft asked → judged kind w v draft asked ≡ Ok tt → Answered kind net (page_of kind w 0) (listed_pages kind w) d
+    pub judged_answered : (parts : Option Parts) → PartsAnswer kind net (page_of kind w 0) (listed_pages kind w) d page rows parts → judged kind w v (zone_worked kind page rows parts) ≡ Ok tt → Answered kind net (page_of kind w 0) (listed_pages kind w) d
     judged_answered None made e = void_answered kind net (page_of kind w 0) (listed_pages kind w) d made
-    judged_answered (Some tokens) made e = asked_answered (draft_zone kind tokens.items draft) made v.void (in_list w.state v.zone) refl e
+    judged_answered (Some parts) made e = asked_answered (own_zone kind (in_page kind page) (rows_at kind rows) parts) made v.void (in_list w.state v.zone) refl e

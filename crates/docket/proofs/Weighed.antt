@@ -1,10 +1,10 @@
 -- What weighing a voucher comes to, from what was read and what was made of the item; and a docket's call from that.
-use Rattle.std.proofs.Common.{◌≡◌, ℕ, Bool, true, false, cond, not, eqb, List, ◌++◌, length, replicate, is_err, Ok, Err, Option, Result, sym, refl, ap, ◌∙◌, subst, inr}
+use Rattle.std.proofs.Common.{◌≡◌, ℕ, Bool, true, false, cond, not, eqb, List, ◌++◌, length, replicate, is_err, Ok, Err, Option, Result, sym, refl, ap, ◌∙◌, subst, inr, arith}
 use Rattle.std.proofs.lemmas.Bool.{and_parts, both_ways, cond-false, eqb-true, true≢false}
-use Rattle.arrayvec.specs.ArrayVec.{ArrayVec}
 use Rattle.bounds.specs.Kinds.{Kind}
+use Rattle.zone_cells.specs.Drafts.{page_zone}
 use Rattle.zone_cells.specs.Sizes.{draft_cells}
-use Rattle.docket.specs.Discharging.{Advanced, Weighed, Worked, Works, judged, voucher_read}
+use Rattle.docket.specs.Discharging.{Advanced, Weighed, Worked, Works, judged, voucher_read, zone_worked}
 use Rattle.docket.proofs.Judged.{judged_answered, judged_answers, judged_late}
 use Rattle.docket.proofs.Named.{item_due, item_held}
 use Rattle.docket_dues.specs.Answered.{Answered, places_of_all, zone_named}
@@ -14,7 +14,10 @@ use Rattle.docket_records.specs.Records.{voucher_size}
 use Rattle.docket_records.specs.Vouchers.{voucher_of}
 use Rattle.docket_records.specs.declared.fault.EntryRefusal.TheVariants.{WrongLength, NotZero}
 use Rattle.docket_records.specs.declared.voucher.Voucher.{Voucher}
-use Rattle.docket_items.specs.Made.{PageHolds, ItemAnswer, StepBack, ZoneMade, loaded}
+use Rattle.docket_items.specs.Made.{PageHolds}
+use Rattle.docket_vouching.specs.Asked.{WorksOut}
+use Rattle.docket_vouching.specs.Means.{MeansItem, PartsAnswer}
+use Rattle.docket_vouching.specs.declared.work.Parts.{Parts}
 use Rattle.nets.specs.Nets.{Net}
 use Rattle.docket_refusals.specs.declared.refusal.CallRefusal.{CallRefusal}
 use Rattle.docket_rules.specs.Calls.{Discharges, Left, Sound, is_early}
@@ -42,24 +45,24 @@ read_is s bytes v = by (eqb (length bytes) voucher_size) _ refl refl
 
 -- ---- weighed
 module _ {B : Type 0} (kind : Kind B) (net : Net B) (w : World B) (bytes : List ℕ) (d : Item) where
-  module _ (places : List ℕ) (cells : List B) (places_are : places ≡ places_at w d.zone) (cells_are : cells ≡ cells_at w d.zone) (before after : List B) (asked : Option (ArrayVec ℕ)) (made : ZoneMade kind net places cells d before after asked) where
-    item_made : w.state.stage ≡ Proving d → length before ≡ draft_cells → Sound kind net w → ItemAnswer kind net (page_of kind w 0) (listed_pages kind w) d after asked
+  module _ (places : List ℕ) (cells : List B) (places_are : places ≡ places_at w d.zone) (cells_are : cells ≡ cells_at w d.zone) (before after : List B) (parts : Option Parts) (works : WorksOut kind net (page_zone kind places cells) d before after parts) (means : MeansItem kind net places cells d before after parts) where
+    item_made : w.state.stage ≡ Proving d → length before ≡ draft_cells → Sound kind net w → PartsAnswer kind net (page_of kind w 0) (listed_pages kind w) d cells after parts
     item_made proving full sound =
         let named = zone_named (page_of kind w 0) (listed_pages kind w) d.zone in
         let held = subst (λ c. PageHolds kind named places c) (sym cells_are) (subst (λ p. PageHolds kind named p (cells_at w d.zone)) (sym places_are) (item_held kind w net d sound proving)) in
-        made.answered (page_of kind w 0) (listed_pages kind w) full (item_due kind w net d sound proving) held
+        means (page_of kind w 0) (listed_pages kind w) (omega (arith, full)) (item_due kind w net d sound proving) held
 
-    pub weighed : (v : Voucher) (answer : Answer) → voucher_read w.state bytes ≡ Ok v → answer ≡ judged kind w v after asked → Weighed kind net w bytes d before after answer
+    pub weighed : (v : Voucher) (answer : Answer) → voucher_read w.state bytes ≡ Ok v → answer ≡ judged kind w v (zone_worked kind cells after parts) → Weighed kind net w bytes d before after answer
     weighed v answer read judges =
         let said = read_is w.state bytes v read in
         record {
-          kept = made.kept;
-          late = ap is_early judges ∙ judged_late kind w v after asked;
+          kept = works.kept;
+          late = ap is_early judges ∙ judged_late kind w v (zone_worked kind cells after parts);
           worked = subst (λ said. Worked kind net w d before said answer) (sym read) (record {
-            draft = after;
-            asked = asked;
-            step = subst (λ c. StepBack kind net (places_at w d.zone) d.zone d.transition d.matching (loaded kind (places_at w d.zone) c before) after asked) cells_are (subst (λ p. StepBack kind net p d.zone d.transition d.matching (loaded kind p cells before) after asked) places_are made.step);
-            answer_is = judges;
+            rows = after;
+            parts = parts;
+            works = subst (λ c. WorksOut kind net (page_zone kind (places_at w d.zone) c) d before after parts) cells_are (subst (λ p. WorksOut kind net (page_zone kind p cells) d before after parts) places_are works);
+            answer_is = judges ∙ ap (λ c. judged kind w v (zone_worked kind c after parts)) cells_are;
           });
           begins = inr (λ h. both_ways (eqb (length bytes) voucher_size) h said.long, inr (λ h. both_ways _ said.clean h, tt));
           answers = λ proving full sound.
@@ -67,10 +70,10 @@ module _ {B : Type 0} (kind : Kind B) (net : Net B) (w : World B) (bytes : List 
                 λ h. both_ways (eqb (length bytes) voucher_size) h said.long,
                 inr (
                   λ h. both_ways _ said.clean h,
-                  subst (λ u. Answers (item_rules kind net w.state (page_of kind w) d u) answer) (sym said.is) (subst (Answers (item_rules kind net w.state (page_of kind w) d v)) (sym judges) (judged_answers kind net w d v after asked (item_made proving full sound))),
+                  subst (λ u. Answers (item_rules kind net w.state (page_of kind w) d u) answer) (sym said.is) (subst (Answers (item_rules kind net w.state (page_of kind w) d v)) (sym judges) (judged_answers kind net w d v cells after parts (item_made proving full sound))),
                 ),
               );
-          answered = λ proving full sound e. judged_answered kind net w d v after asked (item_made proving full sound) (sym judges ∙ e);
+          answered = λ proving full sound e. judged_answered kind net w d v cells after parts (item_made proving full sound) (sym judges ∙ e);
         }
 
   -- ---- the call

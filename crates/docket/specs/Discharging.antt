@@ -1,6 +1,6 @@
 -- What one voucher for one item comes to, once the stage and the lent memory are right.
 --     item      the first that is due
---     draft     the scratch page with the zone that the item asks for
+--     rows      the scratch page with the rows of the zone that the item asks for
 use Rattle.std.specs.Prelude.{
   ◌≡◌,
   ℕ,
@@ -21,16 +21,17 @@ use Rattle.std.specs.Prelude.{
   ◌==◌,
   min,
 }
-use Rattle.arrayvec.specs.ArrayVec.{ArrayVec}
 use Rattle.zone_pages.specs.Objections.{objection_of}
 use Rattle.zone_pages.specs.declared.objections.Objection.{Objection}
 use Rattle.bounds.specs.Kinds.{Kind}
-use Rattle.zone_cells.specs.Drafts.{draft_zone}
+use Rattle.zone_cells.specs.Cells.{in_page}
+use Rattle.zone_cells.specs.Drafts.{page_zone}
 use Rattle.zone_cells.specs.Sizes.{draft_cells}
 use Rattle.docket_dues.specs.Answered.{Answered, places_of_all}
 use Rattle.docket_dues.specs.Dues.{Leads}
 use Rattle.docket_dues.specs.declared.item.Item.{Item}
-use Rattle.docket_items.specs.Made.{StepBack, loaded}
+use Rattle.docket_vouching.specs.Asked.{WorksOut, own_zone, rows_at}
+use Rattle.docket_vouching.specs.declared.work.Parts.{Parts}
 use Rattle.docket_records.specs.Records.{voucher_size}
 use Rattle.docket_records.specs.Vouchers.{voucher_of}
 use Rattle.docket_records.specs.declared.fault.EntryRefusal.{EntryRefusal}
@@ -85,26 +86,30 @@ abbrev pub objected : Result (Unit {0}) Objection → Answer
 objected (Ok u) = Ok tt
 objected (Err o) = Err (Objected o)
 
--- the answer to a voucher for an item that asks for a zone with these tokens in the draft, or for
--- none as it is void
-abbrev pub judged : {B : Type 0} → Kind B → World B → Voucher → (draft : List B) →
-    Option (ArrayVec ℕ) → Answer
-judged kind w v draft None = if v.void then Ok tt else Err IsVoid
-judged kind w v draft (Some tokens) =
+-- the zone that was worked out over a page, with its rows in these cells; none of a void item
+abbrev pub zone_worked : {B : Type 0} → Kind B → (page rows : List B) → Option Parts →
+    Option (Zone B)
+zone_worked kind page rows None = None
+zone_worked kind page rows (Some parts) =
+    Some (own_zone kind (in_page kind page) (rows_at kind rows) parts)
+
+-- the answer to a voucher for an item that asks for this zone, or for none as it is void
+abbrev pub judged : {B : Type 0} → Kind B → World B → Voucher → (asked : Option (Zone B)) → Answer
+judged kind w v None = if v.void then Ok tt else Err IsVoid
+judged kind w v (Some asked) =
     if v.void then Err NotVoid
-    else if in_list w.state v.zone
-    then objected (objection_to kind w v (draft_zone kind tokens.items draft))
+    else if in_list w.state v.zone then objected (objection_to kind w v asked)
     else Err NoSuchZone
 
--- the answer by the cells as they are, whatever the pages hold: the step back from the item's page
--- leaves this draft and these tokens
+-- the answer by the cells as they are, whatever the pages hold: over the item's page the item comes
+-- to these parts, with rows in these cells
 pub record Judges {B : Type 0} (kind : Kind B) (net : Net B) (w : World B) (d : Item)
     (scratch : List B) (v : Voucher) (answer : Answer) : Type 0 where
-  pub draft : List B
-  pub asked : Option (ArrayVec ℕ)
-  pub step : StepBack kind net (places_at w d.zone) d.zone d.transition d.matching
-      (loaded kind (places_at w d.zone) (cells_at w d.zone) scratch) draft asked
-  pub answer_is : answer ≡ judged kind w v draft asked
+  pub rows : List B
+  pub parts : Option Parts
+  pub works : WorksOut kind net (page_zone kind (places_at w d.zone) (cells_at w d.zone)) d
+      scratch rows parts
+  pub answer_is : answer ≡ judged kind w v (zone_worked kind (cells_at w d.zone) rows parts)
 
 abbrev pub Worked : {B : Type 0} → Kind B → Net B → World B → Item → (scratch : List B) →
     Result Voucher EntryRefusal → Answer → Type 0

@@ -6,29 +6,32 @@ ghost use Rattle.docket.specs.Discharging.{
   judged,
   objection_to,
   voucher_read,
+  zone_worked,
 };
 ghost use Rattle.docket.specs.Dockets.{world_over};
 ghost use Rattle.docket_rules.specs.Calls.{Discharges};
 ghost use Rattle.docket_rules.specs.Promise.{Promise};
-ghost use Rattle.docket_rules.specs.Tables.{partners_used};
+ghost use Rattle.docket_rules.specs.Tables.{pairing_of, partners_used};
 ghost use Rattle.docket_rules.specs.Worlds.{cells_at, in_list, lent, places_at};
 ghost use Rattle.std.specs.Prelude.{◌≡◌, ◌<◌, length, slice_index};
-ghost use Rattle.zone_cells.specs.Drafts.{draft_zone};
+ghost use Rattle.docket_vouching.specs.Asked.{shown};
 
 use crate::docket::Docket;
 use crate::memory::is_whole;
 use bounds::Bound;
 use docket_dues::Item;
-use docket_items::{item_zone, next_due};
+use docket_items::next_due;
 use docket_records::fault::EntryRefusal;
 use docket_records::record::Record;
 use docket_records::voucher::Voucher;
 use docket_refusals::CallRefusal;
 use docket_rules::{Stage, seals_keep_promises};
+use docket_vouching::asked::AskedZone;
+use docket_vouching::vouching::Vouching;
+use docket_vouching::work::{Parts, work_out};
 use nets::NetStore;
 use zone_drafts::bytes::byte;
-use zone_drafts::tokens::Tokens;
-use zone_pages::{Asked, Book, Claim, Objection, Page, wipe};
+use zone_pages::{Book, Objection, Page, wipe};
 use zones::MOST_TOKENS;
 
 impl Docket {
@@ -75,49 +78,59 @@ impl Docket {
         Ok(voucher)
     }
 
+    // The partners that the voucher uses.
+    fn pairing<'v>(&self, voucher: &'v Voucher) -> &'v [u8]
+        ensures { result.now ≡ pairing_of self.now voucher.now }
+    {
+        let tokens = usize::from(self.token_count(voucher.zone));
+        voucher.partners.get(..tokens).unwrap_or(&voucher.partners)
+    }
+
     // What stands against the zone that the voucher names.
     fn objection<B: Bound>(
         &self,
         book: &Book<'_, B>,
-        asked: Asked<'_, B>,
+        asked: AskedZone<'_, B>,
         voucher: &Voucher,
     ) -> Result<(), Objection>
         ensures { result ≡
             objection_to B.Bound.kind (world_over self.now book.now) voucher.now
-            (draft_zone B.Bound.kind asked.entry.places.now asked.entry.cells.now) }
+            (shown B.Bound.kind asked.entry) }
     {
-        let tokens = usize::from(self.token_count(voucher.zone));
-        let claim = Claim {
+        let vouching = Vouching {
             page: self.page(book, voucher.zone),
             asked,
-            pairing: voucher.partners.get(..tokens).unwrap_or(&voucher.partners),
+            pairing: self.pairing(voucher),
         };
-        claim.check()
+        vouching.check()
     }
 
-    // The draft has the zone that the item asks for, of these tokens; it is void where there are
-    // none.
+    // Over the item's page and the rows the parts are the zone that it asks for; it is void where
+    // there are none.
     fn judge<B: Bound>(
         &self,
         book: &Book<'_, B>,
-        draft: &[B],
-        asked: Option<Tokens>,
+        page: &[B],
+        rows: &[B],
+        parts: Option<Parts>,
         voucher: &Voucher,
     ) -> Result<(), CallRefusal>
         ensures { result ≡
-            judged B.Bound.kind (world_over self.now book.now) voucher.now draft.now asked }
+            judged B.Bound.kind (world_over self.now book.now) voucher.now
+            (zone_worked B.Bound.kind page.now rows.now parts) }
     {
-        match (voucher.void, asked) {
+        match (voucher.void, parts) {
             (true, None) => Ok(()),
             (true, Some(_)) => Err(CallRefusal::NotVoid),
             (false, None) => Err(CallRefusal::VoidItem),
             (false, Some(_)) if !self.is_listed(voucher.zone) => Err(CallRefusal::NoSuchZone),
-            (false, Some(tokens)) => {
-                let item = Asked {
-                    cells: draft,
-                    places: &tokens,
+            (false, Some(parts)) => {
+                let asked = AskedZone {
+                    page,
+                    parts: &parts,
+                    rows,
                 };
-                Ok(self.objection(book, item, voucher)?)
+                Ok(self.objection(book, asked, voucher)?)
             }
         }
     }
@@ -135,8 +148,9 @@ impl Docket {
             bytes.now item scratch.old scratch.new result }
     {
         let voucher = self.read_voucher(bytes)?;
-        let asked = item_zone(store, &self.page(book, item.zone), item, scratch);
-        self.judge(book, scratch, asked, &voucher)
+        let page = self.page(book, item.zone);
+        let parts = work_out(store, &page, item, scratch);
+        self.judge(book, page.cells, scratch, parts, &voucher)
     }
 
     fn advance<B: Bound, N: NetStore<B>>(&mut self, store: &N, book: &Book<'_, B>, item: Item)

@@ -49,7 +49,8 @@ impl<B: Bound> Vouching<'_, B> {
     // Whether the partner of token k is no token of the item, or is taken.
     fn is_unsound(&self, k: usize) -> bool
         ensures { result ≡
-            partner_unsound (length (shown B.Bound.kind self.now.asked).places) self.now.pairing.now k }
+            partner_unsound (length (shown B.Bound.kind self.now.asked).places)
+            self.now.pairing.now k }
     {
         let partner = usize::from(byte(self.pairing, k));
         !(1..=self.asked.tokens()).contains(&partner) || self.is_taken(k)
@@ -74,7 +75,7 @@ impl<B: Bound> Vouching<'_, B> {
         })
     }
 
-    // Whether the bound that is asked for between the partners of two points is larger than the page's.
+    // Whether the bound asked for between the partners of two points is larger than the page's.
     fn exceeds(&self, j: usize, i: usize) -> bool
         ensures { result ≡ exceeds B.Bound.kind (in_page B.Bound.kind self.now.page.cells.now)
             (shown B.Bound.kind self.now.asked).bound self.now.pairing.now j i }

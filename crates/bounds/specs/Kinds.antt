@@ -43,7 +43,7 @@ pub record Kind (B : Type 0) : Type 0 where
   pub size : B → ℕ
   -- allows k b d: on grid k the bound b allows the difference d
   pub allows : ℕ → B → ℤ → Bool
-  -- the order is total, and no limit is its top
+  -- any two bounds are in order, and nothing is above no limit
   pub total : (a b : B) → IsTrue (at_most a b) ⊎ IsTrue (at_most b a)
   pub transitive : (a b c : B) → IsTrue (at_most a b) → IsTrue (at_most b c) → IsTrue (at_most a c)
   pub antisymmetric : (a b : B) → IsTrue (at_most a b) → IsTrue (at_most b a) → a ≡ b

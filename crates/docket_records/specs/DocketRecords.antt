@@ -1,7 +1,8 @@
 -- The docket header and the initial tokens that bytes say, and what is wrong with bytes that say
 -- none.
---     header    initial tokens 4 bits, listed zones 6, spare 22; the most significant bit first
---     token     place 6 bits, age 15, spare 3
+--     header    4 bits for the initial tokens, 6 for the listed zones, 22 that are spare; the most
+--               significant bit first
+--     token     6 bits for the place, 15 for the age, 3 that are spare
 use Rattle.std.specs.Prelude.{ℕ, Bool, not, List, Result, ◌==◌}
 use Rattle.net_records.specs.Bits.{field}
 use Rattle.docket_records.specs.Records.{header_size, read_as, token_size}

@@ -29,8 +29,8 @@ voucher bytes = read_as voucher_size voucher_spare voucher_of bytes
 abbrev pub some_set : List ℕ → Bool
 some_set numbers = list_any (λ n. not (n == 0)) numbers
 
--- A field that is not used is not zero: a voucher that claims void uses no other field, one for a
--- listed zone of so many tokens no partner past them.
+-- A field that is not used is not zero: a claim of void uses nothing else, and where a zone of so
+-- many tokens is named, the partners past them are not used.
 abbrev pub unused_set : Voucher → ℕ → Bool
 unused_set v tokens =
     if v.void then not (v.zone == 0) || some_set v.partners else some_set (drop tokens v.partners)

@@ -1,4 +1,4 @@
--- What a slice holds that was filled by one closure. Assumes nothing.
+-- What a slice holds that was filled by one closure.
 use Rattle.std.proofs.Common.{◌≡◌, List, [], ◌∷◌, length, replicate, refl, ap, ◌∙◌}
 use Rattle.std.specs.List.{FoldsTo}
 

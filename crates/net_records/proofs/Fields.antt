@@ -1,4 +1,4 @@
--- Fields of bits by quotients and remainders of their bytes. Assumes nothing.
+-- Fields of bits by quotients and remainders of their bytes.
 use Rattle.std.proofs.Common.{◌≡◌, ℕ, zero, suc, ◌+◌, ◌-◌, ◌*◌, ◌/◌, ◌%◌, ◌^◌, ◌<◌, ◌≤◌, Bool, cond, eqb, List, [], ◌∷◌, get_or, take, drop, Some, None, sym, refl, ap, ◌∙◌, add-zero, add-suc, mul_assoc, mul_comm, pow-suc, arith}
 use Rattle.std.proofs.lemmas.Nat.{mod-pow-add, shr-shr}
 use Rattle.std.proofs.lemmas.List.{get_or-take}

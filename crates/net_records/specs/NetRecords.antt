@@ -46,7 +46,7 @@ header_rows bytes =
 abbrev pub header_refusal : List ℕ → Option NetRefusal
 header_refusal bytes = first_refusal (header_rows bytes)
 
--- ---- a transition: input count 3 bits, output count 3, spare 2, four input slots, four output slots
+-- ---- a transition: 3 bits for each count, 2 that are spare, then the slots of inputs and outputs
 abbrev pub transition_record : List ℕ → TransitionRecord
 transition_record bytes =
     record {

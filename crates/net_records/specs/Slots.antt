@@ -21,7 +21,8 @@ end_at bytes i = record { strict = flag bytes i; number = field bytes (i + 1) 15
 abbrev pub zero_end : End
 zero_end = record { strict = false; number = 0 }
 
--- place 6 bits, lower mark 1, lower end 15, no-limit flag 1, upper mark 1, upper end 15, spare 1
+-- 6 bits for the place, the mark of the lower end and its 15 bits, the flag of no limit, the mark of
+-- the upper end and its 15 bits, and one bit that is spare
 abbrev pub slot_of : List ℕ → Slot
 slot_of bytes =
     record {

@@ -82,7 +82,7 @@ side_of Output t = t.outputs
 abbrev pub arcs_of : {B : Type 0} → Net B → ℕ → Side → List (Arc B)
 arcs_of net t side = side_of side (transition_of net t)
 
--- what stands for an arc that does not exist: place 0, and the range from 0 without limit
+-- what stands for an arc that does not exist: any age at place 0
 abbrev pub no_arc : {B : Type 0} → Kind B → Arc B
 no_arc kind = record { place = 0; range = from_zero kind }
 

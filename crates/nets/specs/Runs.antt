@@ -2,7 +2,7 @@
 --     delay     one amount, zero or more, is added to every age
 --     firing    one token for each input arc is removed, and one for each output arc added; the
 --               others stay
---     run       a finite list, perhaps empty, of delays and firings
+--     run       delays and firings one after the other, or none at all
 use Rattle.std.specs.Prelude.{ℕ, ◌≤◌, List, ◌++◌, length}
 use Rattle.bounds.specs.Kinds.{Kind}
 use Rattle.nets.specs.Markings.{Token, Marking, Permuted, aged, refined, FitsAll}

@@ -21,7 +21,7 @@ pub fn read_zone<B: Bound>(
     let record = ZoneRecord::new(bytes);
     record.check::<B>(places)?;
     let zone = TestedRecord { record };
-    // no `From`: `pages`, which has this error, knows nothing of refusals
+    // no `From`: `zone_drafts`, which has this error, knows nothing of refusals
     zone.form(cells).map_err(|_| EntryRefusal::Inconsistent)?;
     Ok(zone.places())
 }

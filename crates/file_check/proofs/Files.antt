@@ -1,12 +1,14 @@
 -- What a whole file comes to, by its net.
-use Rattle.std.proofs.Common.{◌≡◌, ℕ, true, List, take, sym, ap, ◌∙◌, subst}
+use Rattle.std.proofs.Common.{◌≡◌, ℕ, true, List, take, None, Some, Option, sym, ap, ◌∙◌, subst}
 use Rattle.bounds.specs.Kinds.{Kind}
 use Rattle.net_records.proofs.Clean.{sound_clean}
-use Rattle.net_records.specs.NetRecords.{net_header_of, sound}
+use Rattle.net_records.specs.NetRecords.{FaultNumbered, net_fault, net_header_of, sound}
+use Rattle.net_records.specs.Refusals.{NetFault}
 use Rattle.net_records.specs.declared.header.NetHeader.{NetHeader}
 use Rattle.net_records.specs.declared.header.NetKind.{NetKind}
 use Rattle.file_check.specs.Files.{Filed, beginning}
 use Rattle.file_rules.specs.Asks.{docket_asked}
+use Rattle.file_rules.specs.Numbers.{NetNumbered}
 use Rattle.file_rules.specs.Reports.{Reports, ReportsBy, ReportsOf, ReportsUnder, Runs}
 use Rattle.file_rules.specs.declared.line.Line.{Line}
 
@@ -21,3 +23,18 @@ by_kind bytes held h by line same clean is kind reports =
     let of_held = subst (λ k. ReportsOf k held line) said reports in
     let of_bytes = subst (λ b. ReportsOf (net_header_of (take 4 b)).kind b line) same of_held in
     subst (λ o. ReportsBy bytes o line) (sym (sound_clean bytes clean)) of_bytes
+
+-- ---- the number of a fault in the net
+abbrev fault_in : NetFault → Option NetFault → NetFault
+fault_in none None = none
+fault_in none (Some fault) = fault
+
+abbrev IsNone : Option NetFault → Type 0
+IsNone None = Unit {0}
+IsNone (Some fault) = ⊥
+
+pub fault_numbered : (bytes : List ℕ) (f : NetFault) → net_fault bytes ≡ Some f → FaultNumbered bytes f → NetNumbered bytes
+fault_numbered bytes f has numbered = λ fault e. subst (FaultNumbered bytes) (ap (fault_in f) (sym has ∙ e)) numbered
+
+pub clean_numbered : (bytes : List ℕ) → sound bytes ≡ true → NetNumbered bytes
+clean_numbered bytes clean = λ fault e. absurd (subst IsNone (sym (sound_clean bytes clean) ∙ e) tt)

@@ -1,6 +1,7 @@
 // The line of a whole file.
 ghost use Rattle.file_check.specs.Files.{line_from};
 ghost use Rattle.file_check.specs.Walks.{RunsAll};
+ghost use Rattle.file_rules.specs.Numbers.{NetNumbered};
 ghost use Rattle.file_rules.specs.Reports.{Reports};
 ghost use Rattle.file_rules.specs.Truth.{LinePromise, Truth};
 
@@ -25,7 +26,8 @@ fn line_of<B: Bound>(file: &mut DocketFile<'_, '_, B>) -> Line
 
 // A file's docket under its net, over memory of its own.
 fn check_file(bytes: &[u8]) -> Result<Line, FileFault>
-    ensures { Reports bytes.now (line_from result) }
+    ensures line { Reports bytes.now (line_from result) }
+    ensures number { NetNumbered bytes.now }
 {
     let net = PackedNet::read(bytes)?;
     let mut places = [0; BOOK_PLACES];
@@ -51,6 +53,7 @@ fn check_file(bytes: &[u8]) -> Result<Line, FileFault>
 /// from their initial marking to their target.
 pub fn report(bytes: &[u8]) -> Line
     ensures line { Reports bytes.now result }
+    ensures number { NetNumbered bytes.now }
     ensures truth { Truth bytes.now result }
     ensures promise { LinePromise bytes.now }
 {

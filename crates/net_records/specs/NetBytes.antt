@@ -1,6 +1,8 @@
 -- The net that bytes say, and what is asked of it.
 use Rattle.std.specs.Prelude.{ℕ, zero, suc, ◌+◌, ◌-◌, ◌*◌, Bool, ◌&&◌, List, [], ◌∷◌, map, take}
 use Rattle.std.specs.Prelude.{drop, Some, None, Option, nat_le, if◌then◌else◌}
+use Rattle.std.specs.Prelude.{◌≡◌, IsTrue, IsFalse, MatchOption}
+use Rattle.std.specs.Borrow.{Bor}
 use Rattle.bounds.specs.Kinds.{Kind}
 use Rattle.nets.specs.Nets.{Arc, Transition, Net}
 use Rattle.nets.specs.declared.side.Side.{Side}
@@ -63,6 +65,13 @@ transition_bytes bytes t =
 
 abbrev pub has_transition : List ℕ → ℕ → Bool
 has_transition bytes t = nat_le 1 t && nat_le t (front_header bytes).transitions
+
+-- the bytes of the transition of this number; none where there is no such transition
+abbrev pub TransitionAt : (bytes : List ℕ) → (number : ℕ) → Option (Bor (List ℕ)) → Type 0
+TransitionAt bytes number answer =
+    MatchOption answer
+    (IsFalse (has_transition bytes number))
+    (λ part. IsTrue (has_transition bytes number) × (part.now ≡ transition_bytes bytes number))
 
 abbrev pub side_count : Side → TransitionRecord → ℕ
 side_count Input r = r.inputs

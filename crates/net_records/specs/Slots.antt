@@ -2,6 +2,8 @@
 use Rattle.std.specs.Prelude.{ℕ, zero, suc, ◌+◌, Bool, false, not, ◌&&◌, ◌||◌, List, [], ◌∷◌}
 use Rattle.std.specs.Prelude.{if◌then◌else◌}
 use Rattle.std.specs.Prelude.{take, drop, Some, None, Option, pos, neg_ℤ, ◌==◌, if◌then◌else◌}
+use Rattle.std.specs.Prelude.{◌≡◌, ◌<◌, ◌≤◌, length, MatchOption}
+use Rattle.std.specs.Borrow.{Bor}
 use Rattle.bounds.specs.Kinds.{Kind}
 use Rattle.bounds.specs.MarkedKind.{marked_kind}
 use Rattle.bounds.specs.Ranges.{below_zero}
@@ -32,6 +34,15 @@ slot_of bytes =
       unused = if flag bytes 22 then end_at bytes 23 else zero_end;
       spare = flag bytes 39;
     }
+
+-- the slot at the front of bytes, and the bytes behind it; none of fewer bytes
+abbrev pub SplitSlot : List ℕ → Option (Slot × Bor (List ℕ)) → Type 0
+SplitSlot bytes answer =
+    MatchOption answer
+    (length bytes < slot_size)
+    (λ p. (slot_size ≤ length bytes)
+    × (p.0 ≡ slot_of (take slot_size bytes))
+    × (p.1.now ≡ drop slot_size bytes))
 
 -- so many slots, one after the other
 abbrev pub slots_of : ℕ → List ℕ → List Slot

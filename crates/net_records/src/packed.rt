@@ -1,13 +1,13 @@
 //! The packed net store: net records in borrowed bytes, tested first. Each arc is decoded where it
 //! lies.
-ghost use Rattle.net_records.specs.NetBytes.{after_net, arcs_at, has_transition, net_of};
+ghost use Rattle.net_records.specs.NetBytes.{after_net, arcs_at, TransitionAt, net_of};
 ghost use Rattle.net_records.specs.NetBytes.{side_count};
-ghost use Rattle.net_records.specs.NetBytes.{side_start, slot_at, transition_bytes};
+ghost use Rattle.net_records.specs.NetBytes.{side_start, slot_at};
 ghost use Rattle.net_records.specs.NetRecords.{FaultNumbered, front_header, net_fault, sound};
 ghost use Rattle.net_records.specs.NetRecords.{transition_record};
 ghost use Rattle.net_records.specs.Slots.{slot_range};
-ghost use Rattle.std.specs.Prelude.{◌≡◌, ◌+◌, ◌≤◌, ◌&&◌, nat_le, Some, IfErr, IsTrue, IsFalse};
-ghost use Rattle.std.specs.Prelude.{MatchOption, MatchResult};
+ghost use Rattle.std.specs.Prelude.{◌≡◌, ◌+◌, ◌≤◌, ◌&&◌, nat_le, Some, IfErr, IsTrue};
+ghost use Rattle.std.specs.Prelude.{MatchResult};
 
 use crate::fault::NetFault;
 use crate::header::NetHeader;
@@ -77,10 +77,7 @@ impl<'a> PackedNet<'a> {
 
     /// The bytes of a transition, if there is one of this number.
     fn transition(&self, number: u8) -> Option<&'a [u8; TransitionRecord::SIZE]>
-        ensures { MatchOption result
-            (IsFalse (has_transition self.now.bytes.now number))
-            (λ part. IsTrue (has_transition self.now.bytes.now number)
-            × (part.now ≡ transition_bytes self.now.bytes.now number)) }
+        ensures { TransitionAt self.now.bytes.now number result }
     {
         if !(1..=self.header.transitions).contains(&number) {
             return None;

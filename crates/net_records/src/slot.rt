@@ -1,7 +1,6 @@
 //! Arc slots: a place and a range in five bytes.
-ghost use Rattle.net_records.specs.Sizes.{slot_size};
-ghost use Rattle.net_records.specs.Slots.{slot_of, is_unused, is_empty, has_mark, has_stray_bit};
-ghost use Rattle.std.specs.Prelude.{◌≡◌, ◌/◌, ◌%◌, ◌^◌, ◌<◌, ◌≤◌, length, take, drop, MatchOption};
+ghost use Rattle.net_records.specs.Slots.{SplitSlot, is_unused, is_empty, has_mark, has_stray_bit};
+ghost use Rattle.std.specs.Prelude.{◌≡◌, ◌/◌, ◌%◌, ◌^◌};
 ghost use Rattle.std.specs.Prelude.{◌==◌};
 
 /// One end of a range as its 16 bits say it: never below zero, as a number with a mark may be.
@@ -53,11 +52,7 @@ impl Slot {
 
     /// The slot at the front of the bytes, and the bytes that follow it.
     pub fn split(bytes: &[u8]) -> Option<(Slot, &[u8])>
-        ensures { MatchOption result
-            (length bytes.now < slot_size)
-            (λ p. (slot_size ≤ length bytes.now)
-            × (p.0 ≡ slot_of (take slot_size bytes.now))
-            × (p.1.now ≡ drop slot_size bytes.now)) }
+        ensures { SplitSlot bytes.now result }
     {
         let [a, b, c, d, e, rest @ ..] = bytes else {
             return None;

@@ -173,7 +173,8 @@ impl<'a, 'm, B: Bound> DocketFile<'a, 'm, B> {
 
     /// Opens the docket with the target's record.
     pub fn target(&mut self, initial: &InitialLists) -> Result<(), FileFault>
-        ensures made { Called B.Bound.kind (opening_ask B.Bound.kind initial.now self.old.unread) self.old result self.new }
+        ensures made { Called B.Bound.kind
+            (opening_ask B.Bound.kind initial.now self.old.unread) self.old result self.new }
         ensures moved { Moved zone_size self.old.unread result self.new.unread }
     {
         let Part { bytes, at } = self.reader.part(ZONE_SIZE)?;
@@ -194,7 +195,8 @@ impl<'a, 'm, B: Bound> DocketFile<'a, 'm, B> {
 
     /// Posts the next zone.
     pub fn zone(&mut self) -> Result<(), FileFault>
-        ensures made { Called B.Bound.kind (zone_ask B.Bound.kind self.old.unread.next self.old.unread.rest)
+        ensures made { Called B.Bound.kind
+            (zone_ask B.Bound.kind self.old.unread.next self.old.unread.rest)
             self.old result self.new }
         ensures moved { Moved zone_size self.old.unread result self.new.unread }
     {
@@ -208,7 +210,8 @@ impl<'a, 'm, B: Bound> DocketFile<'a, 'm, B> {
 
     /// Closes the list. There is no record of it: a refusal would name the one that comes next.
     pub fn close(&mut self) -> Result<(), FileFault>
-        ensures made { Called B.Bound.kind (Make self.old.unread.next Close) self.old result self.new }
+        ensures made { Called B.Bound.kind (Make self.old.unread.next Close)
+            self.old result self.new }
         ensures unread { self.new.unread ≡ self.old.unread }
     {
         let at = self.reader.number();
@@ -226,7 +229,8 @@ impl<'a, 'm, B: Bound> DocketFile<'a, 'm, B> {
 
     /// Discharges the voucher of this record.
     pub fn discharge(&mut self, part: Part<'_>) -> Result<(), FileFault>
-        ensures made { Called B.Bound.kind (Make part.entry.at (Discharge part.entry.bytes.now (scratch_page B.Bound.kind)))
+        ensures made { Called B.Bound.kind
+            (Make part.entry.at (Discharge part.entry.bytes.now (scratch_page B.Bound.kind)))
             self.old result self.new }
         ensures unread { self.new.unread ≡ self.old.unread }
     {

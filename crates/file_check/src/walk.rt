@@ -28,7 +28,8 @@ impl<'a, 'm, B: Bound> DocketFile<'a, 'm, B> {
         ensures told { Hears W.Watcher.words B.Bound.kind header_next self.old
             (W.Watcher.said watcher.old) self.new (W.Watcher.said watcher.new) result }
         ensures moved { Moved header_size self.old.unread result self.new.unread }
-        ensures header { IfOk result (λ h. h ≡ docket_header_of (take header_size self.old.unread.rest)) }
+        ensures header { IfOk result
+            (λ h. h ≡ docket_header_of (take header_size self.old.unread.rest)) }
     {
         let header = self.header()?;
         watcher.header(header).map_err(|stop| Ended::Stopped(stop))?;
@@ -175,7 +176,8 @@ impl<'a, 'm, B: Bound> DocketFile<'a, 'm, B> {
 
     // Every record, up to the end of the file.
     fn records<W: Watcher<B>>(&mut self, watcher: &mut W) -> Result<Line, Ended<W::Stop>>
-        ensures { Comes W.Watcher.words B.Bound.kind self.old (docket_next B.Bound.kind self.old.unread)
+        ensures { Comes W.Watcher.words B.Bound.kind self.old
+            (docket_next B.Bound.kind self.old.unread)
             (W.Watcher.said watcher.old) (W.Watcher.said watcher.new) result }
     {
         let header = self.told_header(watcher)?;

@@ -35,8 +35,8 @@ pub trait Watcher<B: Bound>: Sized {
 
     /// The docket of this file is about to answer this voucher.
     fn voucher(&mut self, file: &DocketFile<'_, '_, B>, voucher: &[u8]) -> Result<(), Self::Stop>
-        ensures { OnOk result
-            (said self.new ≡ said self.old ++ words.voucher file.now.world.state (voucher_of voucher.now)) };
+        ensures { OnOk result (said self.new ≡
+            said self.old ++ words.voucher file.now.world.state (voucher_of voucher.now)) };
 }
 
 /// A watcher who says nothing.

@@ -1,6 +1,6 @@
 //! Arc slots: a place and a range in five bytes.
 ghost use Rattle.net_records.specs.Slots.{SplitSlot, is_unused, is_empty, has_mark, has_stray_bit};
-ghost use Rattle.std.specs.Prelude.{◌≡◌, ◌/◌, ◌%◌, ◌^◌};
+ghost use Rattle.std.specs.Prelude.{◌≡◌, ◌/◌, ◌%◌, ◌^◌, ◌<◌};
 ghost use Rattle.std.specs.Prelude.{◌==◌};
 
 /// One end of a range as its 16 bits say it: never below zero, as a number with a mark may be.

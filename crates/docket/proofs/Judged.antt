@@ -13,7 +13,7 @@ use Rattle.docket_dues.specs.Answered.{Answered, ItemZone, SameZone, VoidItem, z
 use Rattle.docket_dues.specs.declared.item.Item.{Item}
 use Rattle.docket_dues.proofs.Answered.{void_answered, vouched_answered}
 use Rattle.docket_records.specs.declared.voucher.Voucher.{Voucher}
-use Rattle.docket_vouching.specs.Asked.{own_zone, rows_at}
+use Rattle.docket_vouching.specs.Asked.{own_zone, rows_within}
 use Rattle.docket_vouching.specs.Means.{PartsAnswer}
 use Rattle.docket_vouching.specs.declared.work.Parts.{Parts}
 use Rattle.nets.specs.Nets.{Net}
@@ -122,8 +122,8 @@ module _ {B : Type 0} (kind : Kind B) (net : Net B) (w : World B) (d : Item) (v 
   module _ (page rows : List B) where
     pub judged_answers : (parts : Option Parts) → PartsAnswer kind net (page_of kind w 0) (listed_pages kind w) d page rows parts → Answers (item_rules kind net w.state (page_of kind w) d v) (judged kind w v (zone_worked kind page rows parts))
     judged_answers None made = void_answers made v.void refl
-    judged_answers (Some parts) made = asked_answers (own_zone kind (in_page kind page) (rows_at kind rows) parts) made v.void (in_list w.state v.zone) refl refl
+    judged_answers (Some parts) made = asked_answers (own_zone kind (in_page kind page) (rows_within kind rows) parts) made v.void (in_list w.state v.zone) refl refl
 
     pub judged_answered : (parts : Option Parts) → PartsAnswer kind net (page_of kind w 0) (listed_pages kind w) d page rows parts → judged kind w v (zone_worked kind page rows parts) ≡ Ok tt → Answered kind net (page_of kind w 0) (listed_pages kind w) d
     judged_answered None made e = void_answered kind net (page_of kind w 0) (listed_pages kind w) d made
-    judged_answered (Some parts) made e = asked_answered (own_zone kind (in_page kind page) (rows_at kind rows) parts) made v.void (in_list w.state v.zone) refl e
+    judged_answered (Some parts) made e = asked_answered (own_zone kind (in_page kind page) (rows_within kind rows) parts) made v.void (in_list w.state v.zone) refl e

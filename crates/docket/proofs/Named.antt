@@ -11,7 +11,7 @@ use Rattle.docket_items.specs.Made.{PageHolds}
 use Rattle.nets.specs.Nets.{Net, numbered}
 use Rattle.docket_rules.specs.Calls.{Sound}
 use Rattle.docket_rules.specs.Tables.{due_in, is_proving}
-use Rattle.docket_rules.specs.Worlds.{World, listed_count, listed_pages, cells_at, page_of, places_at}
+use Rattle.docket_rules.specs.Worlds.{World, listed_count, listed_pages, page_cells_at, page_of, page_places_at}
 use Rattle.docket_rules.specs.declared.stage.Stage.TheVariants.{Proving}
 use Rattle.zones.specs.Zones.{Zone}
 
@@ -36,10 +36,10 @@ module _ {B : Type 0} (kind : Kind B) (w : World B) where
       get_or-map-range_with_len (page_of kind w) 1 (listed_count w.state) p (suc p) (page_of kind w 0) (omega (arith, few)) (omega arith)
 
   -- a page that is not written has no tokens
-  unwritten : (p : ℕ) → length w.state.counts ≤ p → places_at w p ≡ []
+  unwritten : (p : ℕ) → length w.state.counts ≤ p → page_places_at w p ≡ []
   unwritten p past = ap (λ n. take n (drop (8 * p) w.places)) (get_or_past w.state.counts p 0 past)
 
-  pub places_named : (p : ℕ) → 1 ≤ p → numbered (places_of_all (listed_pages kind w)) p [] ≡ places_at w p
+  pub places_named : (p : ℕ) → 1 ≤ p → numbered (places_of_all (listed_pages kind w)) p [] ≡ page_places_at w p
   places_named zero some = absurd (omega (arith, some))
   places_named (suc p) some =
       ⊎_elim
@@ -59,9 +59,9 @@ module _ {B : Type 0} (kind : Kind B) (w : World B) where
     item_inside : d.zone ≤ listed_count w.state
     item_inside = omega (arith, due_inside net (places_of_all listed) d.zone d.transition d.matching item_due, length-map listed (λ z. z.places), as_many)
 
-    pub item_held : PageHolds kind (zone_named (page_of kind w 0) (listed_pages kind w) d.zone) (places_at w d.zone) (cells_at w d.zone)
+    pub item_held : PageHolds kind (zone_named (page_of kind w 0) (listed_pages kind w) d.zone) (page_places_at w d.zone) (page_cells_at w d.zone)
     item_held =
         let page = page_of kind w d.zone in
         let formed = sound.pages d.zone (omega (arith, item_inside, sound.opened (ap is_proving proving))) in
-        let held : PageHolds kind page (places_at w d.zone) (cells_at w d.zone) = record { same = itself page; formed = formed } in
-        subst (λ z. PageHolds kind z (places_at w d.zone) (cells_at w d.zone)) (sym (page_named d.zone item_inside)) held
+        let held : PageHolds kind page (page_places_at w d.zone) (page_cells_at w d.zone) = record { same = itself page; formed = formed } in
+        subst (λ z. PageHolds kind z (page_places_at w d.zone) (page_cells_at w d.zone)) (sym (page_named d.zone item_inside)) held

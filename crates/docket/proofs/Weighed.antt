@@ -22,7 +22,7 @@ use Rattle.nets.specs.Nets.{Net}
 use Rattle.docket_refusals.specs.declared.refusal.CallRefusal.{CallRefusal}
 use Rattle.docket_rules.specs.Calls.{Discharges, Left, Sound, is_early}
 use Rattle.docket_rules.specs.Tables.{Answer, Answers, Begins, discharge_rules, discharge_table, due_in, is_proving, item_rules, stray_set, voucher_rules}
-use Rattle.docket_rules.specs.Worlds.{Lent, State, World, book_whole, listed_pages, cells_at, page_of, places_at, whole, with_scratch}
+use Rattle.docket_rules.specs.Worlds.{Lent, State, World, book_whole, listed_pages, page_cells_at, page_of, page_places_at, whole, with_scratch}
 use Rattle.docket_rules.specs.declared.stage.Stage.TheVariants.{Proving}
 
 -- ---- the voucher
@@ -45,11 +45,11 @@ read_is s bytes v = by (eqb (length bytes) voucher_size) _ refl refl
 
 -- ---- weighed
 module _ {B : Type 0} (kind : Kind B) (net : Net B) (w : World B) (bytes : List ℕ) (d : Item) where
-  module _ (places : List ℕ) (cells : List B) (places_are : places ≡ places_at w d.zone) (cells_are : cells ≡ cells_at w d.zone) (before after : List B) (parts : Option Parts) (works : WorksOut kind net (page_zone kind places cells) d before after parts) (means : MeansItem kind net places cells d before after parts) where
+  module _ (places : List ℕ) (cells : List B) (places_are : places ≡ page_places_at w d.zone) (cells_are : cells ≡ page_cells_at w d.zone) (before after : List B) (parts : Option Parts) (works : WorksOut kind net (page_zone kind places cells) d before after parts) (means : MeansItem kind net places cells d before after parts) where
     item_made : w.state.stage ≡ Proving d → length before ≡ draft_cells → Sound kind net w → PartsAnswer kind net (page_of kind w 0) (listed_pages kind w) d cells after parts
     item_made proving full sound =
         let named = zone_named (page_of kind w 0) (listed_pages kind w) d.zone in
-        let held = subst (λ c. PageHolds kind named places c) (sym cells_are) (subst (λ p. PageHolds kind named p (cells_at w d.zone)) (sym places_are) (item_held kind w net d sound proving)) in
+        let held = subst (λ c. PageHolds kind named places c) (sym cells_are) (subst (λ p. PageHolds kind named p (page_cells_at w d.zone)) (sym places_are) (item_held kind w net d sound proving)) in
         means (page_of kind w 0) (listed_pages kind w) (omega (arith, full)) (item_due kind w net d sound proving) held
 
     pub weighed : (v : Voucher) (answer : Answer) → voucher_read w.state bytes ≡ Ok v → answer ≡ judged kind w v (zone_worked kind cells after parts) → Weighed kind net w bytes d before after answer
@@ -61,7 +61,7 @@ module _ {B : Type 0} (kind : Kind B) (net : Net B) (w : World B) (bytes : List 
           worked = subst (λ said. Worked kind net w d before said answer) (sym read) (record {
             rows = after;
             parts = parts;
-            works = subst (λ c. WorksOut kind net (page_zone kind (places_at w d.zone) c) d before after parts) cells_are (subst (λ p. WorksOut kind net (page_zone kind p cells) d before after parts) places_are works);
+            works = subst (λ c. WorksOut kind net (page_zone kind (page_places_at w d.zone) c) d before after parts) cells_are (subst (λ p. WorksOut kind net (page_zone kind p cells) d before after parts) places_are works);
             answer_is = judges ∙ ap (λ c. judged kind w v (zone_worked kind c after parts)) cells_are;
           });
           begins = inr (λ h. both_ways (eqb (length bytes) voucher_size) h said.long, inr (λ h. both_ways _ said.clean h, tt));

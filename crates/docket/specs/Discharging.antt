@@ -30,7 +30,7 @@ use Rattle.zone_cells.specs.Sizes.{draft_cells}
 use Rattle.docket_dues.specs.Answered.{Answered, places_of_all}
 use Rattle.docket_dues.specs.Dues.{Leads}
 use Rattle.docket_dues.specs.declared.item.Item.{Item}
-use Rattle.docket_vouching.specs.Asked.{WorksOut, own_zone, rows_at}
+use Rattle.docket_vouching.specs.Asked.{WorksOut, own_zone, rows_within}
 use Rattle.docket_vouching.specs.declared.work.Parts.{Parts}
 use Rattle.docket_records.specs.Records.{voucher_size}
 use Rattle.docket_records.specs.Vouchers.{voucher_of}
@@ -60,11 +60,11 @@ use Rattle.docket_rules.specs.Worlds.{
   Lent,
   State,
   World,
-  cells_at,
+  page_cells_at,
   in_list,
   listed_pages,
   page_of,
-  places_at,
+  page_places_at,
   whole,
 }
 use Rattle.docket_rules.specs.declared.stage.Stage.TheVariants.{Proving}
@@ -91,7 +91,7 @@ abbrev pub zone_worked : {B : Type 0} → Kind B → (page rows : List B) → Op
     Option (Zone B)
 zone_worked kind page rows None = None
 zone_worked kind page rows (Some parts) =
-    Some (own_zone kind (in_page kind page) (rows_at kind rows) parts)
+    Some (own_zone kind (in_page kind page) (rows_within kind rows) parts)
 
 -- the answer to a voucher for an item that asks for this zone, or for none as it is void
 abbrev pub judged : {B : Type 0} → Kind B → World B → Voucher → (asked : Option (Zone B)) → Answer
@@ -107,9 +107,9 @@ pub record Judges {B : Type 0} (kind : Kind B) (net : Net B) (w : World B) (d : 
     (scratch : List B) (v : Voucher) (answer : Answer) : Type 0 where
   pub rows : List B
   pub parts : Option Parts
-  pub works : WorksOut kind net (page_zone kind (places_at w d.zone) (cells_at w d.zone)) d
+  pub works : WorksOut kind net (page_zone kind (page_places_at w d.zone) (page_cells_at w d.zone)) d
       scratch rows parts
-  pub answer_is : answer ≡ judged kind w v (zone_worked kind (cells_at w d.zone) rows parts)
+  pub answer_is : answer ≡ judged kind w v (zone_worked kind (page_cells_at w d.zone) rows parts)
 
 abbrev pub Worked : {B : Type 0} → Kind B → Net B → World B → Item → (scratch : List B) →
     Result Voucher EntryRefusal → Answer → Type 0

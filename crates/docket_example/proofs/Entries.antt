@@ -6,7 +6,7 @@ use Rattle.bounds.specs.PlainKind.{plain_kind}
 use Rattle.bounds.specs.declared.plain.PlainBound.{PlainBound}
 use Rattle.docket_dues.specs.declared.item.Item.{Item}
 use Rattle.docket_records.specs.ZoneRecords.{zone_of}
-use Rattle.docket_example.specs.Checking.{CallsEnded, MayBeRefused, EntryStands, Stopped, at_entry, blank_page, call_for, check_verdict, given_by, initial_marking, listing, log_before, opening_of, proving, target_of}
+use Rattle.docket_example.specs.Checking.{CallsEnded, MayBeRefused, EntryStands, Stopped, at_entry, blank_page, call_for, check_verdict, given_by, initial_marking, listing, log_before, opening_of, proving, target_given}
 use Rattle.docket_example.specs.declared.certificate.Certificate.{Certificate}
 use Rattle.docket_example.specs.declared.checking.Entry.{Entry}
 use Rattle.docket_example.specs.declared.checking.Entry.TheVariants.{Opening as InOpening, Zone, ListEnd, Voucher}
@@ -125,5 +125,5 @@ module _ (net : Net PlainBound) (c : Certificate) where
     pub ended_sealed : None ≡ next_due_of w.state.stage → CallsEnded net c Sealed
     ended_sealed e = record { world = w; stands = s; said = ap check_verdict (sym (none_due e)) }
 
-    pub seal_holds : None ≡ next_due_of w.state.stage → Safe plain_kind net (starts_at (initial_marking c)) (target_of c)
+    pub seal_holds : None ≡ next_due_of w.state.stage → Safe plain_kind net (starts_at (initial_marking c)) (target_given c)
     seal_holds e = kept.truth (stage ∙ ap proving_stage (none_due e))

@@ -37,11 +37,11 @@ line_net line = handover_net line.lower line.upper
 abbrev pub given_by : Certificate → Given
 given_by c = given c.places.now c.ages.now
 
-abbrev pub target_of : Certificate → Zone PlainBound
-target_of c = zone_of plain_kind c.target.now
+abbrev pub target_given : Certificate → Zone PlainBound
+target_given c = zone_of plain_kind c.target.now
 
 abbrev pub opening_of : Certificate → Opening PlainBound
-opening_of c = record { initial = initial_tokens (given_by c); target = target_of c }
+opening_of c = record { initial = initial_tokens (given_by c); target = target_given c }
 
 -- where the runs start that are to miss the target
 abbrev pub initial_marking : Certificate → Marking

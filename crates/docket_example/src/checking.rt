@@ -5,7 +5,7 @@ ghost use Rattle.docket_example.specs.Checking.{
   at_entry,
   initial_marking,
   line_net,
-  target_of,
+  target_given,
 };
 ghost use Rattle.std.specs.Prelude.{◌≡◌};
 ghost use Rattle.zones.specs.Safety.{Safe, starts_at};
@@ -62,7 +62,7 @@ fn at(entry: Entry, answer: Result<(), CallRefusal>) -> Result<(), Refused>
 pub fn check(line: &Handover, certificate: &Certificate<'_>) -> Result<Verdict, Refused>
     ensures seal { result ≡ Ok Verdict.Sealed →
         Safe plain_kind (line_net line.now) (starts_at (initial_marking certificate.now))
-        (target_of certificate.now) }
+        (target_given certificate.now) }
     ensures exact { Checked (line_net line.now) certificate.now result }
 {
     // These two do nothing: what they ensure is what calls on a docket come to over this store.

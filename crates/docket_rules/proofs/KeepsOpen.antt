@@ -8,7 +8,7 @@ use Rattle.docket_records.specs.ZoneRecords.{zone_of}
 use Rattle.nets.specs.Nets.{Net}
 use Rattle.docket_rules.specs.Calls.{Open, Opened, Step}
 use Rattle.docket_rules.specs.Logs.{Log, Opening, no_log, with_call}
-use Rattle.docket_rules.specs.Tables.{Answer, Given, even, initial_tokens, is_blank, open_table}
+use Rattle.docket_rules.specs.Tables.{Answer, Given, equal_lists, initial_tokens, is_blank, open_table}
 use Rattle.docket_rules.specs.Worlds.{World, page_of, whole, with_scratch}
 use Rattle.zones.specs.Zones.{Zone}
 use Rattle.docket_rules.proofs.Agrees.{Agrees, AgreesAs, AgreesOpened, PageAgrees, zone_said}
@@ -55,6 +55,6 @@ module _ {B : Type 0} (kind : Kind B) (net : Net B) where
   pub keeps_open : (log : Log B) (w u : World B) (g : Given) (target : List ℕ) (scratch : List B) (answer : Answer) → Agrees kind net log w → Step kind net w (Open g target scratch answer) u → Agrees kind net (with_call kind log (Open g target scratch answer)) u
   keeps_open log w u g target scratch (Ok t) agrees step =
       let fails = none_holds (open_table kind net w.state (whole (with_scratch w scratch)) g target) step.1.answers in
-      let memory = and_parts (whole (with_scratch w scratch)) (even g) (true_from_ne_false (whole (with_scratch w scratch) && even g) fails.1.0) in
+      let memory = and_parts (whole (with_scratch w scratch)) (equal_lists g) (true_from_ne_false (whole (with_scratch w scratch) && equal_lists g) fails.1.0) in
       open_taken log w u g (zone_of kind target) log.opening agrees (whole_parts w scratch memory.0) fails.0 (step.1.taken refl)
   keeps_open log w u g target scratch (Err r) agrees step = unmoved kind net log w u (step.1.refused r refl) agrees

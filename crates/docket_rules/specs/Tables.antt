@@ -110,8 +110,8 @@ abbrev pub given : (places ages : List ℕ) → Given
 given places ages = record { places = places; ages = ages }
 
 -- an age for each place
-abbrev pub even : Given → Bool
-even g = length g.places == length g.ages
+abbrev pub equal_lists : Given → Bool
+equal_lists g = length g.places == length g.ages
 
 abbrev pub initial_tokens : Given → List InitialToken
 initial_tokens g = map (λ both. record { place = both.0; age = both.1 }) (zip g.places g.ages)
@@ -130,7 +130,7 @@ abbrev pub open_table : {B : Type 0} → Kind B → Net B → State → (sized :
     (target : List ℕ) → List Rule
 open_table kind net s sized g target =
     rule 40 (IsFalse (is_blank s.stage))
-    ∷ rule 41 (IsFalse (sized && even g))
+    ∷ rule 41 (IsFalse (sized && equal_lists g))
     ∷ initial_rules net.places g ++ record_rules kind net.places target
 
 -- ---- post: a listed zone's record

@@ -63,15 +63,15 @@ sized w scratch = whole (with_scratch w scratch)
 
 -- ---- pages
 -- the cells of the page with this number
-abbrev pub cells_at : {B : Type 0} → World B → ℕ → List B
-cells_at w p = take page_cells (drop (page_cells * p) w.cells)
+abbrev pub page_cells_at : {B : Type 0} → World B → ℕ → List B
+page_cells_at w p = take page_cells (drop (page_cells * p) w.cells)
 
 -- the places of its tokens
-abbrev pub places_at : {B : Type 0} → World B → ℕ → List ℕ
-places_at w p = take (slice_index w.state.counts p) (drop (page_places * p) w.places)
+abbrev pub page_places_at : {B : Type 0} → World B → ℕ → List ℕ
+page_places_at w p = take (slice_index w.state.counts p) (drop (page_places * p) w.places)
 
 abbrev pub page_of : {B : Type 0} → Kind B → World B → ℕ → Zone B
-page_of kind w p = page_zone kind (places_at w p) (cells_at w p)
+page_of kind w p = page_zone kind (page_places_at w p) (page_cells_at w p)
 
 abbrev pub listed_count : State → ℕ
 listed_count s = length s.counts - 1

@@ -15,7 +15,7 @@ use Rattle.zone_closed_forms.specs.ClosedForms.{ClockRows, begun, delayed_rows, 
 use Rattle.zone_closed_forms.proofs.Alike.{kept_closed_alike}
 use Rattle.docket_dues.specs.Answered.{digits}
 use Rattle.docket_dues.specs.declared.item.Item.{Item}
-use Rattle.docket_vouching.specs.Asked.{WorkedOut, fired_from, rows_at, spread_zone, zone_asked}
+use Rattle.docket_vouching.specs.Asked.{WorkedOut, fired_from, rows_within, spread_zone, zone_asked}
 use Rattle.docket_vouching.specs.Rows.{rows_in}
 use Rattle.docket_vouching.specs.declared.work.Parts.{Parts}
 
@@ -41,16 +41,16 @@ module _ {B : Type 0} (kind : Kind B) (z : Zone B) (few : length z.places ≤ 8)
       (λ _. fired_few t (digits net d.transition d.matching) (narrowed_from kind t.outputs (digits net d.transition d.matching) z.bound) (transition_limits kind net d.transition limits).few_inputs))
 
 module _ {B : Type 0} (kind : Kind B) (x : Matrix B) (up low rest : List B) (some : length up ≡ 13) (others : length low ≡ 13) where
-  up_at : (j : ℕ) → j < 13 → (rows_at kind (up ++ (low ++ rest))).up j ≡ (rows_in kind up low).up j
+  up_at : (j : ℕ) → j < 13 → (rows_within kind (up ++ (low ++ rest))).up j ≡ (rows_in kind up low).up j
   up_at j l = get_or-append up (low ++ rest) kind.no_limit j (omega (arith, some, l))
 
-  low_at : (k : ℕ) → k < 13 → (rows_at kind (up ++ (low ++ rest))).low k ≡ (rows_in kind up low).low k
+  low_at : (k : ℕ) → k < 13 → (rows_within kind (up ++ (low ++ rest))).low k ≡ (rows_in kind up low).low k
   low_at k l =
       ap (λ n. get_or (up ++ (low ++ rest)) (n + k) kind.no_limit) (sym some)
       ∙ get_or-append-add up (low ++ rest) k kind.no_limit
       ∙ get_or-append low rest kind.no_limit k (omega (arith, others, l))
 
-  pub worked_at : (o : Option (Zone B)) (answer : Option Parts) → FewOr o → WorkedOut kind x (rows_in kind up low) o answer → WorkedOut kind x (rows_at kind (up ++ (low ++ rest))) o answer
+  pub worked_at : (o : Option (Zone B)) (answer : Option Parts) → FewOr o → WorkedOut kind x (rows_in kind up low) o answer → WorkedOut kind x (rows_within kind (up ++ (low ++ rest))) o answer
   worked_at None None few h = h
   worked_at None (Some parts) few h = h
   worked_at (Some asked) None few h = h
@@ -58,7 +58,7 @@ module _ {B : Type 0} (kind : Kind B) (x : Matrix B) (up low rest : List B) (som
       record {
         places = h.places;
         bounds = λ j i p q.
-            kept_closed_alike kind x parts.kept.items (rows_at kind (up ++ (low ++ rest))) (rows_in kind up low) j i (up_at j (omega (arith, few, p))) (low_at i (omega (arith, few, q)))
+            kept_closed_alike kind x parts.kept.items (rows_within kind (up ++ (low ++ rest))) (rows_in kind up low) j i (up_at j (omega (arith, few, p))) (low_at i (omega (arith, few, q)))
             ∙ h.bounds j i p q;
       }
 

@@ -22,7 +22,7 @@ use Rattle.docket_dues.specs.Answered.{SameZone, digits, zone_named}
 use Rattle.docket_dues.specs.Dues.{item}
 use Rattle.docket_dues.proofs.Same.{delay_same, firing_same, normal_same, sized_same, void_same}
 use Rattle.docket_items.specs.Made.{PageHolds}
-use Rattle.docket_vouching.specs.Asked.{PageDigits, WorkedOut, WorksOut, delayed_kept, fired_from, own_zone, rows_at, whole_zone, zone_asked}
+use Rattle.docket_vouching.specs.Asked.{PageDigits, WorkedOut, WorksOut, delayed_kept, fired_from, own_zone, rows_within, whole_zone, zone_asked}
 use Rattle.docket_vouching.specs.Means.{MeansItem, PartsAnswer}
 use Rattle.docket_vouching.specs.declared.work.Parts.{Parts}
 use Rattle.docket_vouching.proofs.Zones.{asked_firing, zone_on}
@@ -94,7 +94,7 @@ module _ {B : Type 0} (kind : Kind B) (net : Net B) (limits : Limits kind net) (
   y = page_zone kind page_places page
 
   abbrev own : ClockRows B
-  own = rows_at kind after
+  own = rows_within kind after
 
   module _ (z : Zone B) (holds : PageHolds kind z page_places page) where
     few : length page_places ≤ 8
@@ -103,17 +103,17 @@ module _ {B : Type 0} (kind : Kind B) (net : Net B) (limits : Limits kind net) (
     formed : PageFormed kind (page_zone kind page_places page)
     formed = record { few = few; normal = normal_same kind z y holds.same holds.formed.normal; small = sized_same kind z y holds.same largest_listed holds.formed.small }
 
-  whole_means : (target : Zone B) (listed : List (Zone B)) (t n : ℕ) (answer : Option Parts) → PageHolds kind target page_places page → WorkedOut kind (page_zone kind page_places page).bound (rows_at kind after) (zone_asked kind net (page_zone kind page_places page) (item 0 t n)) answer → PartsAnswer kind net target listed (item 0 t n) page after answer
+  whole_means : (target : Zone B) (listed : List (Zone B)) (t n : ℕ) (answer : Option Parts) → PageHolds kind target page_places page → WorkedOut kind (page_zone kind page_places page).bound (rows_within kind after) (zone_asked kind net (page_zone kind page_places page) (item 0 t n)) answer → PartsAnswer kind net target listed (item 0 t n) page after answer
   whole_means target listed t n None holds h = h
   whole_means target listed t n (Some parts) holds h = whole_item kind y (formed target holds) own target holds.same parts h
 
-  delay_means : (target : Zone B) (listed : List (Zone B)) (zone n : ℕ) (answer : Option Parts) → PageHolds kind (zone_named target listed (suc zone)) page_places page → WorkedOut kind (page_zone kind page_places page).bound (rows_at kind after) (Some (delayed_kept kind (page_zone kind page_places page))) answer → PartsAnswer kind net target listed (item (suc zone) 0 n) page after answer
+  delay_means : (target : Zone B) (listed : List (Zone B)) (zone n : ℕ) (answer : Option Parts) → PageHolds kind (zone_named target listed (suc zone)) page_places page → WorkedOut kind (page_zone kind page_places page).bound (rows_within kind after) (Some (delayed_kept kind (page_zone kind page_places page))) answer → PartsAnswer kind net target listed (item (suc zone) 0 n) page after answer
   delay_means target listed zone n None holds h = h
   delay_means target listed zone n (Some parts) holds h =
       let z : Zone B = zone_named target listed (suc zone) in
       delayed_item kind y (formed z holds) own z holds.same parts h
 
-  firing_means : (target : Zone B) (listed : List (Zone B)) (zone t n : ℕ) (answer : Option Parts) → PageHolds kind (zone_named target listed (suc zone)) page_places page → matches page_places (arcs_of net (suc t) Output) (digits net (suc t) n) ≡ true → WorkedOut kind (page_zone kind page_places page).bound (rows_at kind after) (fired_from kind (transition_of net (suc t)) (digits net (suc t) n) (page_zone kind page_places page) (narrowed_from kind (arcs_of net (suc t) Output) (digits net (suc t) n) (in_page kind page))) answer → PartsAnswer kind net target listed (item (suc zone) (suc t) n) page after answer
+  firing_means : (target : Zone B) (listed : List (Zone B)) (zone t n : ℕ) (answer : Option Parts) → PageHolds kind (zone_named target listed (suc zone)) page_places page → matches page_places (arcs_of net (suc t) Output) (digits net (suc t) n) ≡ true → WorkedOut kind (page_zone kind page_places page).bound (rows_within kind after) (fired_from kind (transition_of net (suc t)) (digits net (suc t) n) (page_zone kind page_places page) (narrowed_from kind (arcs_of net (suc t) Output) (digits net (suc t) n) (in_page kind page))) answer → PartsAnswer kind net target listed (item (suc zone) (suc t) n) page after answer
   firing_means target listed zone t n answer holds matched h =
       let z : Zone B = zone_named target listed (suc zone) in
       let ms : List ℕ = digits net (suc t) n in
@@ -121,7 +121,7 @@ module _ {B : Type 0} (kind : Kind B) (net : Net B) (limits : Limits kind net) (
       let form : FiringFormOr kind (transition_of net (suc t)) ms y o = fired_form kind net.places (transition_of net (suc t)) ms y (formed z holds) (transition_limits kind net (suc t) limits) matched in
       answered answer (firing_item kind y (formed z holds) own z holds.same (transition_of net (suc t)) ms o answer form h)
     where
-      answered : (answer : Option Parts) → FiringShown kind (transition_of net (suc t)) (digits net (suc t) n) (zone_named target listed (suc zone)) (page_zone kind page_places page) (rows_at kind after) answer → PartsAnswer kind net target listed (item (suc zone) (suc t) n) page after answer
+      answered : (answer : Option Parts) → FiringShown kind (transition_of net (suc t)) (digits net (suc t) n) (zone_named target listed (suc zone)) (page_zone kind page_places page) (rows_within kind after) answer → PartsAnswer kind net target listed (item (suc zone) (suc t) n) page after answer
       answered None g = g
       answered (Some parts) g = g
 

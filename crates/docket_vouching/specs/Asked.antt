@@ -20,8 +20,8 @@ use Rattle.docket_vouching.specs.declared.asked.AskedZone.{AskedZone}
 use Rattle.docket_vouching.specs.declared.work.Parts.{Parts}
 
 -- the zone of a page
-abbrev pub zone_of : {B : Type 0} → Kind B → Page B → Zone B
-zone_of kind page = page_zone kind page.places.now page.cells.now
+abbrev pub zone_on_page : {B : Type 0} → Kind B → Page B → Zone B
+zone_on_page kind page = page_zone kind page.places.now page.cells.now
 
 -- kept tokens and then the arcs' tokens, by the rows of the page's points
 abbrev pub spread_zone : {B : Type 0} →
@@ -70,8 +70,8 @@ abbrev pub rows_cells : ℕ
 rows_cells = 44
 
 -- rows of an asked zone's points, where they stand in those cells
-abbrev pub rows_at : {B : Type 0} → Kind B → List B → ClockRows B
-rows_at kind cells =
+abbrev pub rows_within : {B : Type 0} → Kind B → List B → ClockRows B
+rows_within kind cells =
     record {
       up = λ j. slice_index_or cells j kind.no_limit;
       low = λ k. slice_index_or cells (draft_row + k) kind.no_limit;
@@ -87,11 +87,11 @@ pub record WorksOut {B : Type 0} (kind : Kind B) (net : Net B) (z : Zone B) (d :
   pub kept : length after ≡ length before
   pub worked : rows_cells ≤ length before → length z.places ≤ most_tokens →
       PageDigits (digits net d.transition d.matching) →
-      WorkedOut kind z.bound (rows_at kind after) (zone_asked kind net z d) answer
+      WorkedOut kind z.bound (rows_within kind after) (zone_asked kind net z d) answer
 
 -- the zone that the cells of a page, the rows in other cells and the parts are
 abbrev pub shown : {B : Type 0} → Kind B → AskedZone B → Zone B
-shown kind a = own_zone kind (in_page kind a.page.now) (rows_at kind a.rows.now) a.parts.now
+shown kind a = own_zone kind (in_page kind a.page.now) (rows_within kind a.rows.now) a.parts.now
 
 -- ---- over a page, with the zone's rows in two slices
 abbrev pub OwnIs : {B : Type 0} → Kind B → Page B → (up low : List B) → Zone B → Parts → Type 0
@@ -107,17 +107,17 @@ WorkedIs kind page up low asked answer =
 abbrev pub replaced_zone : {B : Type 0} → Kind B → Net B → (transition : ℕ) → List ℕ → Page B →
     (page_up page_low : List B) → Zone B
 replaced_zone kind net transition matching page page_up page_low =
-    spread_zone kind (zone_of kind page) (staying matching (zone_of kind page))
+    spread_zone kind (zone_on_page kind page) (staying matching (zone_on_page kind page))
     (arcs_of net transition Input) (rows_in kind page_up page_low)
 
 abbrev pub fired_over : {B : Type 0} → Kind B → Net B → (transition : ℕ) → List ℕ → Page B →
     Option (Zone B)
 fired_over kind net transition matching page =
-    fired_from kind (transition_of net transition) matching (zone_of kind page)
+    fired_from kind (transition_of net transition) matching (zone_on_page kind page)
     (narrowed_from kind (arcs_of net transition Output) matching (in_page kind page.cells.now))
 
 abbrev pub WorksIn : {B : Type 0} → Kind B → Net B → Page B → Item → (up low : List B) →
     Option Parts → Type 0
 WorksIn kind net page d up low answer =
     PageDigits (digits net d.transition d.matching) →
-    WorkedIs kind page up low (zone_asked kind net (zone_of kind page) d) answer
+    WorkedIs kind page up low (zone_asked kind net (zone_on_page kind page) d) answer

@@ -8,7 +8,7 @@ use Rattle.docket_dues.specs.Answered.{ItemZone, VoidItem, places_of_all, zone_n
 use Rattle.docket_dues.specs.DueLaws.{IsDue}
 use Rattle.docket_dues.specs.declared.item.Item.{Item}
 use Rattle.docket_items.specs.Made.{PageHolds}
-use Rattle.docket_vouching.specs.Asked.{own_zone, rows_at, rows_cells}
+use Rattle.docket_vouching.specs.Asked.{own_zone, rows_within, rows_cells}
 use Rattle.docket_vouching.specs.declared.work.Parts.{Parts}
 
 -- the item's zone, or none where the item is void
@@ -18,7 +18,7 @@ PartsAnswer kind net target listed d page cells None =
     VoidItem kind net target listed d.zone d.transition d.matching
 PartsAnswer kind net target listed d page cells (Some parts) =
     ItemZone kind net target listed d.zone d.transition d.matching
-    (own_zone kind (in_page kind page) (rows_at kind cells) parts)
+    (own_zone kind (in_page kind page) (rows_within kind cells) parts)
 
 abbrev pub MeansItem : {B : Type 0} → Kind B → Net B → (page_places : List ℕ) →
     (page : List B) → Item → (before after : List B) → Option Parts → Type 0

@@ -1,5 +1,5 @@
 //! Whether a page's zone vouches for the zone that an item asks for, and what stands against it.
-ghost use Rattle.docket_vouching.specs.Asked.{shown, zone_of};
+ghost use Rattle.docket_vouching.specs.Asked.{shown, zone_on_page};
 ghost use Rattle.std.specs.Prelude.{◌≡◌, length};
 ghost use Rattle.zone_cells.specs.Cells.{in_page};
 ghost use Rattle.zone_pages.specs.Comparison.{bound_exceeds, exceeds, exceeds_in_row};
@@ -105,9 +105,9 @@ impl<B: Bound> Vouching<'_, B> {
 
     /// What stands against it, the lowest number first.
     pub fn check(&self) -> Result<(), Objection>
-        ensures is { result ≡ objection_of B.Bound.kind (zone_of B.Bound.kind self.now.page)
+        ensures is { result ≡ objection_of B.Bound.kind (zone_on_page B.Bound.kind self.now.page)
             (shown B.Bound.kind self.now.asked) self.now.pairing.now }
-        ensures means { Means B.Bound.kind (zone_of B.Bound.kind self.now.page)
+        ensures means { Means B.Bound.kind (zone_on_page B.Bound.kind self.now.page)
             (shown B.Bound.kind self.now.asked) self.now.pairing.now result }
     {
         if self.lacks_partners() {

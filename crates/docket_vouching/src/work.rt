@@ -1,7 +1,7 @@
 //! Works out the zone that an item asks for.
 ghost use Rattle.docket_vouching.specs.Asked.{OwnIs, PageDigits, WorkedIs, WorksIn, WorksOut};
 ghost use Rattle.docket_vouching.specs.Asked.{delayed_kept, fired_over, replaced_zone};
-ghost use Rattle.docket_vouching.specs.Asked.{whole_zone, zone_of};
+ghost use Rattle.docket_vouching.specs.Asked.{whole_zone, zone_on_page};
 ghost use Rattle.docket_vouching.specs.Means.{MeansItem};
 ghost use Rattle.nets.specs.Nets.{Every, arcs_of};
 ghost use Rattle.nets.specs.declared.side.Side.TheVariants.{Output};
@@ -75,7 +75,7 @@ fn whole<B: Bound, N: NetStore<B>>(
     ensures page_up { length page_up.new ≡ 9 }
     ensures page_low { length page_low.new ≡ 9 }
     ensures zone { OwnIs B.Bound.kind page.now up.new low.new
-        (whole_zone B.Bound.kind (zone_of B.Bound.kind page.now)) result }
+        (whole_zone B.Bound.kind (zone_on_page B.Bound.kind page.now)) result }
 {
     begin(page.cells, page_up, page_low);
     replace(store, 0, &[], page, page_up, page_low, up, low)
@@ -100,7 +100,7 @@ fn delayed<B: Bound, N: NetStore<B>>(
     ensures page_up { length page_up.new ≡ 9 }
     ensures page_low { length page_low.new ≡ 9 }
     ensures zone { OwnIs B.Bound.kind page.now up.new low.new
-        (delayed_kept B.Bound.kind (zone_of B.Bound.kind page.now)) result }
+        (delayed_kept B.Bound.kind (zone_on_page B.Bound.kind page.now)) result }
 {
     delay(page.cells, page.places.len() as u8, page_up, page_low);
     replace(store, 0, &[], page, page_up, page_low, up, low)
@@ -197,7 +197,7 @@ pub fn work_out<B: Bound, N: NetStore<B>>(
     cells: &mut [B],
 ) -> Option<Parts>
     ensures works { WorksOut B.Bound.kind (N.NetStore.net store.now)
-        (zone_of B.Bound.kind page.now) item cells.old cells.new result }
+        (zone_on_page B.Bound.kind page.now) item cells.old cells.new result }
     ensures means { MeansItem B.Bound.kind (N.NetStore.net store.now)
         page.now.places.now page.now.cells.now item cells.old cells.new result }
 {

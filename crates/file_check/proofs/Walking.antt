@@ -14,7 +14,7 @@ use Rattle.docket_rules.specs.Worlds.{State, World, listed_count}
 use Rattle.docket_rules.specs.declared.stage.Stage.{Stage}
 use Rattle.docket_rules.specs.declared.stage.Stage.TheVariants.{Blank, Listing, Proving, Sealed}
 use Rattle.file_check.specs.Files.{AskMade, Called, Filed, IsClosed, Waits, opening_ask}
-use Rattle.file_check.specs.Walks.{AsGiven, Comes, Passes, Tells, read_tokens}
+use Rattle.file_check.specs.Walks.{AsGiven, Comes, Passes, TellsFrom, read_tokens}
 use Rattle.file_check.specs.declared.initial.InitialLists.{InitialLists}
 use Rattle.file_check.specs.declared.watcher.Ended.{Ended}
 use Rattle.file_check.specs.declared.watcher.Ended.TheVariants.{Stopped, Refused}
@@ -30,11 +30,11 @@ use Rattle.nets.specs.Nets.{Net}
 module _ {B : Type 0} (words : Words B) (kind : Kind B) where
   -- what is told from here on goes on from what was told before
   pub record Going (start : Filed B) (asks : List (Ask B)) (first : List ℕ) (f : Filed B) (left : List (Ask B)) (said : List ℕ) : Type 0 where
-    pub goes : (last : List ℕ) (line : Line) → Tells words kind f left said last line → Tells words kind start asks first last line
+    pub goes : (last : List ℕ) (line : Line) → TellsFrom words kind f left said last line → TellsFrom words kind start asks first last line
 
   -- one ask more is behind
   abbrev pub Past : (f : Filed B) → Ask B → (said : List ℕ) → (f' : Filed B) → (said' : List ℕ) → Type 0
-  Past f ask said f' said' = (later : List (Ask B)) (last : List ℕ) (line : Line) → Tells words kind f' later said' last line → Tells words kind f (ask ∷ later) said last line
+  Past f ask said f' said' = (later : List (Ask B)) (last : List ℕ) (line : Line) → TellsFrom words kind f' later said' last line → TellsFrom words kind f (ask ∷ later) said last line
 
   -- what ended early ends it all
   pub passes_out : {S Y : Type 0} (X : Type 0) (start f f' v : Filed B) (asks left later rest : List (Ask B)) (first said said' : List ℕ) (e e' : Ended S) (r : Result Y (Ended S)) → Going start asks first f left said → Passes words kind {X = X} f left said f' later said' (Err e) → r ≡ Err e' → e' ≡ e → Passes words kind {X = Y} start asks first v rest said' r
@@ -54,7 +54,7 @@ module _ {B : Type 0} (words : Words B) (kind : Kind B) where
   comes_out X start f f' asks left later first said said' (Stopped s) e' r going h is same =
       subst (λ q. Comes words kind start asks first said' q) (sym (is ∙ ap Err same)) tt
 
-  pub going_on : (start f f' : Filed B) (asks left later : List (Ask B)) (first said said' : List ℕ) → Going start asks first f left said → ((last : List ℕ) (line : Line) → Tells words kind f' later said' last line → Tells words kind f left said last line) → Going start asks first f' later said'
+  pub going_on : (start f f' : Filed B) (asks left later : List (Ask B)) (first said said' : List ℕ) → Going start asks first f left said → ((last : List ℕ) (line : Line) → TellsFrom words kind f' later said' last line → TellsFrom words kind f left said last line) → Going start asks first f' later said'
   going_on start f f' asks left later first said said' going step = record { goes = λ last line h. going.goes last line (step last line h) }
 
   pub going_self : (f : Filed B) (asks : List (Ask B)) (said : List ℕ) → Going f asks said f asks said
@@ -70,7 +70,7 @@ module _ {B : Type 0} (words : Words B) (kind : Kind B) where
     pub zones_on : (f' : Filed B) (said' : List ℕ) → f'.unread ≡ past 192 f.unread → Past f (zone_ask kind f.unread.next f.unread.rest) said f' said' → Going start asks first f' (zones_asked kind (n - (k + 1)) f'.unread.next f'.unread.rest) said'
     zones_on f' said' moved step = record {
       goes = λ last line h.
-          zones_here.goes last line (step _ last line (subst (λ (u : Unread). Tells words kind f' (zones_asked kind (n - (k + 1)) u.next u.rest) said' last line) moved h));
+          zones_here.goes last line (step _ last line (subst (λ (u : Unread). TellsFrom words kind f' (zones_asked kind (n - (k + 1)) u.next u.rest) said' last line) moved h));
     }
 
   pub zones_all : (n k : ℕ) (start f : Filed B) (asks : List (Ask B)) (first said : List ℕ) → k ≡ n → Going start asks first f (zones_asked kind (n - k) f.unread.next f.unread.rest) said → Going start asks first f (proving_asked kind f.unread.next f.unread.rest) said
@@ -88,7 +88,7 @@ module _ {B : Type 0} (words : Words B) (kind : Kind B) where
     pub tokens_on : (f' : Filed B) (said' : List ℕ) → f'.unread ≡ past 3 f.unread → Past f (token_ask (k + 1) f.unread.next f.unread.rest) said f' said' → Going start asks first f' (tokens_asked (n - (k + 1)) (k + 1 + 1) f'.unread.next f'.unread.rest ++ later) said'
     tokens_on f' said' moved step = record {
       goes = λ last line h.
-          tokens_here.goes last line (step _ last line (subst (λ (u : Unread). Tells words kind f' (tokens_asked (n - (k + 1)) (k + 1 + 1) u.next u.rest ++ later) said' last line) moved h));
+          tokens_here.goes last line (step _ last line (subst (λ (u : Unread). TellsFrom words kind f' (tokens_asked (n - (k + 1)) (k + 1 + 1) u.next u.rest ++ later) said' last line) moved h));
     }
 
   pub tokens_all : (n k number : ℕ) (start f : Filed B) (asks later : List (Ask B)) (first said : List ℕ) → k ≡ n → Going start asks first f (tokens_asked (n - k) number f.unread.next f.unread.rest ++ later) said → Going start asks first f later said
@@ -106,7 +106,7 @@ module _ {B : Type 0} (words : Words B) (kind : Kind B) where
     pub vouchers_on : (f' : Filed B) (said' : List ℕ) → 0 < length f.unread.rest → f'.unread ≡ past 6 f.unread → Past f (voucher_ask kind f.unread.next f.unread.rest) said f' said' → Going start asks first f' (vouchers_asked kind (voucher_count kind f'.unread.rest) f'.unread.next f'.unread.rest) said'
     vouchers_on f' said' some moved step = record {
       goes = λ last line h.
-          (vouchers_here some).goes last line (step _ last line (subst (λ (u : Unread). Tells words kind f' (vouchers_asked kind (voucher_count kind u.rest) u.next u.rest) said' last line) moved h));
+          (vouchers_here some).goes last line (step _ last line (subst (λ (u : Unread). TellsFrom words kind f' (vouchers_asked kind (voucher_count kind u.rest) u.next u.rest) said' last line) moved h));
     }
 
     pub vouchers_all : length f.unread.rest ≡ 0 → Going start asks first f [] said
@@ -128,17 +128,17 @@ module _ {B : Type 0} (words : Words B) (kind : Kind B) where
     told_here : heard ≡ said ++ words.voucher f.world.state (voucher_of (take 6 f.unread.rest))
     told_here = told ∙ ap (λ (x : Filed B). said ++ words.voucher x.world.state (voucher_of bytes)) waits ∙ ap (λ b. said ++ words.voucher f.world.state (voucher_of b)) is
 
-    whole : (last : List ℕ) (line : Line) → Tells words kind f (Make f.unread.next (given (take 6 f.unread.rest)) ∷ later) said last line → Tells words kind f (voucher_ask kind f.unread.next f.unread.rest ∷ later) said last line
+    whole : (last : List ℕ) (line : Line) → TellsFrom words kind f (Make f.unread.next (given (take 6 f.unread.rest)) ∷ later) said last line → TellsFrom words kind f (voucher_ask kind f.unread.next f.unread.rest ∷ later) said last line
     whole last line h =
-        subst (λ ask. Tells words kind f (ask ∷ later) said last line) (sym (cond-false (nat_lt (length f.unread.rest) 6) _ _ (le-ltb (length f.unread.rest) 6 there))) h
+        subst (λ ask. TellsFrom words kind f (ask ∷ later) said last line) (sym (cond-false (nat_lt (length f.unread.rest) 6) _ _ (le-ltb (length f.unread.rest) 6 there))) h
 
-    pub voucher_taken : Called kind (Make at (given bytes)) g (Ok tt) v → (last : List ℕ) (line : Line) → Tells words kind v later heard last line → Tells words kind f (voucher_ask kind f.unread.next f.unread.rest ∷ later) said last line
+    pub voucher_taken : Called kind (Make at (given bytes)) g (Ok tt) v → (last : List ℕ) (line : Line) → TellsFrom words kind v later heard last line → TellsFrom words kind f (voucher_ask kind f.unread.next f.unread.rest ∷ later) said last line
     voucher_taken made last line h =
         let same : v.net ≡ f.net = made.net ∙ ap (λ x. x.net) waits in
         let under = subst (λ n. TellsIn words kind n v.world later heard last line) same h in
         whole last line (Ok tt, v.world, made_here (Ok tt) made.made, subst (λ t. TellsIn words kind f.net v.world later t last line) told_here under)
 
-    pub voucher_refused : (fault : FileFault) → Called kind (Make at (given bytes)) g (Err fault) v → Tells words kind f (voucher_ask kind f.unread.next f.unread.rest ∷ later) said heard (RefusedLine fault)
+    pub voucher_refused : (fault : FileFault) → Called kind (Make at (given bytes)) g (Err fault) v → TellsFrom words kind f (voucher_ask kind f.unread.next f.unread.rest ∷ later) said heard (RefusedLine fault)
     voucher_refused fault made =
         let refused = made_here (Err fault) made.made in
         whole heard (RefusedLine fault) (Err refused.0, v.world, refused.1, (told_here, ap RefusedLine refused.2))
@@ -148,7 +148,7 @@ module _ {B : Type 0} (words : Words B) (kind : Kind B) where
   close_on start f first said same step = record {
     goes = λ last line h.
         step (vouchers_asked kind (voucher_count kind start.unread.rest) start.unread.next start.unread.rest) last line
-        (subst (λ (u : Unread). Tells words kind f (vouchers_asked kind (voucher_count kind u.rest) u.next u.rest) said last line) same h);
+        (subst (λ (u : Unread). TellsFrom words kind f (vouchers_asked kind (voucher_count kind u.rest) u.next u.rest) said last line) same h);
   }
 
   -- ---- the docket header
@@ -156,28 +156,28 @@ module _ {B : Type 0} (words : Words B) (kind : Kind B) where
   header_on start f first said h is moved step = record {
     goes = λ last line told.
         step _ last line
-        (subst (λ k. Tells words kind f (marking_asked kind k (start.unread.next + 1) (drop 4 start.unread.rest)) said last line) is
-        (subst (λ (u : Unread). Tells words kind f (marking_asked kind h u.next u.rest) said last line) moved told));
+        (subst (λ k. TellsFrom words kind f (marking_asked kind k (start.unread.next + 1) (drop 4 start.unread.rest)) said last line) is
+        (subst (λ (u : Unread). TellsFrom words kind f (marking_asked kind h u.next u.rest) said last line) moved told));
   }
 
   -- ---- the target, behind the initial tokens
   asks_target : (n : ℕ) (rest : List ℕ) (lists : InitialLists) (u : Unread) → AsGiven n rest lists → opening_ask kind lists u ≡ target_ask kind (initial_tokens_of n rest) u.next u.rest
   asks_target n rest lists u gave = λ i. with_record 192 u.next u.rest (λ target. Open (record { places = gave.places i; ages = gave.ages i }) target (scratch_page kind))
 
-  pub marking_on : (start f : Filed B) (first said : List ℕ) (h : DocketHeader) (lists : InitialLists) → AsGiven h.initial start.unread.rest lists → f.unread ≡ read_tokens h.initial start.unread → ((later : List (Ask B)) (last : List ℕ) (line : Line) → Tells words kind f later said last line → Tells words kind start (tokens_asked h.initial 1 start.unread.next start.unread.rest ++ later) first last line) → Going start (marking_asked kind h start.unread.next start.unread.rest) first f (opening_ask kind lists f.unread ∷ zones_asked kind h.zones (f.unread.next + 1) (drop 192 f.unread.rest)) said
+  pub marking_on : (start f : Filed B) (first said : List ℕ) (h : DocketHeader) (lists : InitialLists) → AsGiven h.initial start.unread.rest lists → f.unread ≡ read_tokens h.initial start.unread → ((later : List (Ask B)) (last : List ℕ) (line : Line) → TellsFrom words kind f later said last line → TellsFrom words kind start (tokens_asked h.initial 1 start.unread.next start.unread.rest ++ later) first last line) → Going start (marking_asked kind h start.unread.next start.unread.rest) first f (opening_ask kind lists f.unread ∷ zones_asked kind h.zones (f.unread.next + 1) (drop 192 f.unread.rest)) said
   marking_on start f first said h lists given moved step =
       let tokens = initial_tokens_of h.initial start.unread.rest in
       record {
         goes = λ last line told.
             step _ last line
-            (subst (λ (u : Unread). Tells words kind f (target_asked kind tokens h.zones u.next u.rest) said last line) moved
-            (subst (λ ask. Tells words kind f (ask ∷ zones_asked kind h.zones (f.unread.next + 1) (drop 192 f.unread.rest)) said last line) (asks_target h.initial start.unread.rest lists f.unread given) told));
+            (subst (λ (u : Unread). TellsFrom words kind f (target_asked kind tokens h.zones u.next u.rest) said last line) moved
+            (subst (λ ask. TellsFrom words kind f (ask ∷ zones_asked kind h.zones (f.unread.next + 1) (drop 192 f.unread.rest)) said last line) (asks_target h.initial start.unread.rest lists f.unread given) told));
       }
 
   pub target_on : (n : ℕ) (start f f' : Filed B) (asks : List (Ask B)) (ask : Ask B) (first said said' : List ℕ) → Going start asks first f (ask ∷ zones_asked kind n (f.unread.next + 1) (drop 192 f.unread.rest)) said → f'.unread ≡ past 192 f.unread → Past f ask said f' said' → Going start asks first f' (zones_asked kind n f'.unread.next f'.unread.rest) said'
   target_on n start f f' asks ask first said said' going moved step = record {
     goes = λ last line told.
-        going.goes last line (step _ last line (subst (λ (u : Unread). Tells words kind f' (zones_asked kind n u.next u.rest) said' last line) moved told));
+        going.goes last line (step _ last line (subst (λ (u : Unread). TellsFrom words kind f' (zones_asked kind n u.next u.rest) said' last line) moved told));
   }
 
   -- ---- what is told comes to the line

@@ -64,12 +64,12 @@ RunsAll kind file line = Runs kind file.net file.world (docket_next kind file.un
 
 module _ {B : Type 0} (words : Words B) (kind : Kind B) where
   -- ---- from this file on
-  abbrev pub Tells : Filed B → List (Ask B) → (before last : List ℕ) → Line → Type 0
-  Tells file asks before last line =
+  abbrev pub TellsFrom : Filed B → List (Ask B) → (before last : List ℕ) → Line → Type 0
+  TellsFrom file asks before last line =
       TellsIn words kind file.net file.world asks before last line
 
   abbrev pub TellsAll : Filed B → (before last : List ℕ) → Line → Type 0
-  TellsAll file before last line = Tells file (docket_next kind file.unread) before last line
+  TellsAll file before last line = TellsFrom file (docket_next kind file.unread) before last line
 
   -- ---- a step of the walk, or several
   -- what is told from here on, with all that was told before it, is what is told from the start; a
@@ -78,10 +78,10 @@ module _ {B : Type 0} (words : Words B) (kind : Kind B) where
       (later : List (Ask B)) → (said : List ℕ) → Result X (Ended S) → Type 0
   Passes file asks before after later said (Ok x) =
       (last : List ℕ) (line : Line) →
-      Tells after later said last line →
-      Tells file asks before last line
+      TellsFrom after later said last line →
+      TellsFrom file asks before last line
   Passes file asks before after later said (Err (Refused fault)) =
-      Tells file asks before said (RefusedLine fault)
+      TellsFrom file asks before said (RefusedLine fault)
   Passes file asks before after later said (Err (Stopped s)) = Unit {0}
 
   -- through one ask, whatever comes later
@@ -108,9 +108,9 @@ module _ {B : Type 0} (words : Words B) (kind : Kind B) where
   -- the whole walk: the line, also of a refusal
   abbrev pub Comes : {S : Type 0} → Filed B → List (Ask B) → (before last : List ℕ) →
       Result Line (Ended S) → Type 0
-  Comes file asks before last (Ok line) = Tells file asks before last line
+  Comes file asks before last (Ok line) = TellsFrom file asks before last line
   Comes file asks before last (Err (Refused fault)) =
-      Tells file asks before last (RefusedLine fault)
+      TellsFrom file asks before last (RefusedLine fault)
   Comes file asks before last (Err (Stopped s)) = Unit {0}
 
 -- ---- the initial tokens

@@ -5,7 +5,7 @@ ghost use Rattle.docket_records.specs.DocketRecords.{docket_header, initial_toke
 ghost use Rattle.docket_records.specs.Records.{header_size, token_size, voucher_size, zone_size};
 ghost use Rattle.docket_rules.specs.Calls.{Close, Discharge, next_due_of};
 ghost use Rattle.docket_rules.specs.Tables.{partners_used};
-ghost use Rattle.docket_rules.specs.Worlds.{cells_at, listed_count, places_at};
+ghost use Rattle.docket_rules.specs.Worlds.{page_cells_at, listed_count, page_places_at};
 ghost use Rattle.file_check.specs.Files.{Called, IsLine, PartTaken, Reads, Waits, beginning, filed};
 ghost use Rattle.file_check.specs.Files.{opening_ask};
 ghost use Rattle.file_rules.specs.Asks.{Make, scratch_page, zone_ask};
@@ -109,8 +109,8 @@ impl<'a, 'm, B: Bound> DocketFile<'a, 'm, B> {
 
     /// The page with this number: 0 is the target's, and the listed zones follow.
     pub fn page(&self, number: u8) -> Page<'_, B>
-        ensures cells { result.cells.now ≡ cells_at self.now.world number }
-        ensures places { result.places.now ≡ places_at self.now.world number }
+        ensures cells { result.cells.now ≡ page_cells_at self.now.world number }
+        ensures places { result.places.now ≡ page_places_at self.now.world number }
         ensures few { length result.places.now < 256 }
     {
         let book = Book {

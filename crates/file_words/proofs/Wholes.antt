@@ -6,7 +6,7 @@ use Rattle.bounds.specs.Kinds.{Kind}
 use Rattle.bounds.specs.MarkedKind.{marked_kind}
 use Rattle.bounds.specs.PlainKind.{plain_kind}
 use Rattle.file_check.specs.Files.{Filed, beginning}
-use Rattle.file_check.specs.Walks.{Tells}
+use Rattle.file_check.specs.Walks.{TellsFrom}
 use Rattle.file_rules.specs.Asks.{docket_asked}
 use Rattle.file_rules.specs.Reports.{Reports, ReportsBy, ReportsOf, Runs, net_kind_of}
 use Rattle.file_rules.specs.declared.fault.FileRefusal.TheVariants.{Net as InNet}
@@ -31,12 +31,12 @@ file_told bytes held text last same clean whole told =
     subst (λ f. told_under bytes f last) (sym (sound_clean bytes clean)) written
 
 -- ---- a walk from the beginning of a file
-pub under_told : {B : Type 0} (kind : Kind B) (words : B → List ℕ) (bytes : List ℕ) (f : Filed B) (before said last : List ℕ) (line : Line) → f ≡ beginning kind bytes → Tells (teller_words kind words) kind f (docket_asked kind f.unread.next f.unread.rest) before said line → Runs kind f.net f.world (docket_asked kind f.unread.next f.unread.rest) line → last ≡ said ++ last_line line → UnderTold kind words bytes before last
+pub under_told : {B : Type 0} (kind : Kind B) (words : B → List ℕ) (bytes : List ℕ) (f : Filed B) (before said last : List ℕ) (line : Line) → f ≡ beginning kind bytes → TellsFrom (teller_words kind words) kind f (docket_asked kind f.unread.next f.unread.rest) before said line → Runs kind f.net f.world (docket_asked kind f.unread.next f.unread.rest) line → last ≡ said ++ last_line line → UnderTold kind words bytes before last
 under_told kind words bytes f before said last line begins told runs text = record {
   line = line;
   reports = subst (λ (x : Filed _). Runs kind x.net x.world (docket_asked kind x.unread.next x.unread.rest) line) begins runs;
   said = said;
-  told = subst (λ (x : Filed _). Tells (teller_words kind words) kind x (docket_asked kind x.unread.next x.unread.rest) before said line) begins told;
+  told = subst (λ (x : Filed _). TellsFrom (teller_words kind words) kind x (docket_asked kind x.unread.next x.unread.rest) before said line) begins told;
   text = text;
 }
 

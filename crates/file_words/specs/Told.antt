@@ -7,7 +7,7 @@ use Rattle.bounds.specs.Kinds.{Kind}
 use Rattle.bounds.specs.MarkedKind.{marked_kind, marked_limit}
 use Rattle.bounds.specs.PlainKind.{plain_kind, plain_limit}
 use Rattle.bounds.specs.Texts.{limit_text}
-use Rattle.docket_rules.specs.Worlds.{World, cells_at, listed_count, places_at}
+use Rattle.docket_rules.specs.Worlds.{World, page_cells_at, listed_count, page_places_at}
 use Rattle.file_rules.specs.Asks.{Words}
 use Rattle.file_rules.specs.Reports.{Reports, ReportsUnder, net_kind_of}
 use Rattle.file_rules.specs.Telling.{TellsUnder}
@@ -29,7 +29,7 @@ use Rattle.zone_cells.specs.Cells.{in_page}
 abbrev pub last_page_text : {B : Type 0} → Kind B → (B → List ℕ) → World B → List ℕ
 last_page_text kind words w =
     let p = listed_count w.state in
-    zone_text words p (places_at w p) (in_page kind (cells_at w p))
+    zone_text words p (page_places_at w p) (in_page kind (page_cells_at w p))
 
 abbrev pub teller_words : {B : Type 0} → Kind B → (B → List ℕ) → Words B
 teller_words kind words = record {

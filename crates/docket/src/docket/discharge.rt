@@ -12,7 +12,7 @@ ghost use Rattle.docket.specs.Dockets.{world_over};
 ghost use Rattle.docket_rules.specs.Calls.{Discharges};
 ghost use Rattle.docket_rules.specs.Promise.{Promise};
 ghost use Rattle.docket_rules.specs.Tables.{pairing_of, partners_used};
-ghost use Rattle.docket_rules.specs.Worlds.{cells_at, in_list, lent, places_at};
+ghost use Rattle.docket_rules.specs.Worlds.{page_cells_at, in_list, lent, page_places_at};
 ghost use Rattle.std.specs.Prelude.{◌≡◌, ◌<◌, length, slice_index};
 ghost use Rattle.docket_vouching.specs.Asked.{shown};
 
@@ -44,8 +44,8 @@ impl Docket {
 
     /// The page with this number, and the places of its tokens.
     pub fn page<'a, B: Bound>(&self, book: &Book<'a, B>, number: u8) -> Page<'a, B>
-        ensures cells { result.cells.now ≡ cells_at (world_over self.now book.now) number }
-        ensures places { result.places.now ≡ places_at (world_over self.now book.now) number }
+        ensures cells { result.cells.now ≡ page_cells_at (world_over self.now book.now) number }
+        ensures places { result.places.now ≡ page_places_at (world_over self.now book.now) number }
         ensures few { length result.places.now < 256 }
     {
         book.page(number, self.token_count(number))

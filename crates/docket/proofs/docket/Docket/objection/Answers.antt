@@ -1,6 +1,6 @@
 use Rattle.std.proofs.Common.{ap, ◌∙◌}
 use Rattle.docket.specs.Dockets.{world_over}
-use Rattle.docket_rules.specs.Worlds.{cells_at, places_at}
+use Rattle.docket_rules.specs.Worlds.{page_cells_at, page_places_at}
 use Rattle.docket_vouching.specs.Asked.{shown}
 use Rattle.zone_cells.specs.Drafts.{page_zone}
 use Rattle.zone_pages.specs.Objections.{objection_of}
@@ -14,5 +14,5 @@ returns g c =
     let zone = c.args.voucher.now.zone in
     c.check.ensures.is
     ∙ ap (λ p. objection_of kind (page_zone kind p c.page.result.cells.now) asked c.pairing.result.now) c.page.ensures.places
-    ∙ ap (λ cells. objection_of kind (page_zone kind (places_at world zone) cells) asked c.pairing.result.now) c.page.ensures.cells
-    ∙ ap (λ p. objection_of kind (page_zone kind (places_at world zone) (cells_at world zone)) asked p) c.pairing.ensures
+    ∙ ap (λ cells. objection_of kind (page_zone kind (page_places_at world zone) cells) asked c.pairing.result.now) c.page.ensures.cells
+    ∙ ap (λ p. objection_of kind (page_zone kind (page_places_at world zone) (page_cells_at world zone)) asked p) c.pairing.ensures

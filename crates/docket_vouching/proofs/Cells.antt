@@ -1,6 +1,7 @@
 -- Rows that stand in the first of some cells, one behind the other.
-use Rattle.std.proofs.Common.{◌≡◌, ℕ, ◌+◌, ◌<◌, ◌≤◌, eqb, List, [], ◌++◌, map, length, get_or, Some, None, Option, sym, ap, ◌∙◌, arith, length-append}
+use Rattle.std.proofs.Common.{◌≡◌, ℕ, ◌+◌, ◌<◌, ◌≤◌, eqb, List, [], ◌++◌, drop, map, length, get_or, Some, None, Option, sym, ap, ◌∙◌, arith, length-append}
 use lib.ListN.{length-map}
+use lib.Seq.{drop-append-add}
 use Rattle.std.proofs.Math.ListN.{get_or-append}
 use Rattle.std.proofs.lemmas.Bool.{cond_both}
 use Rattle.std.proofs.lemmas.List.{get_or-append-add}
@@ -15,7 +16,7 @@ use Rattle.zone_closed_forms.specs.ClosedForms.{ClockRows, begun, delayed_rows, 
 use Rattle.zone_closed_forms.proofs.Alike.{kept_closed_alike}
 use Rattle.docket_dues.specs.Answered.{digits}
 use Rattle.docket_dues.specs.declared.item.Item.{Item}
-use Rattle.docket_vouching.specs.Asked.{WorkedOut, fired_from, rows_within, spread_zone, zone_asked}
+use Rattle.docket_vouching.specs.Asked.{WorkedOut, fired_from, rows_cells, rows_within, spread_zone, zone_asked}
 use Rattle.docket_vouching.specs.Rows.{rows_in}
 use Rattle.docket_vouching.specs.declared.work.Parts.{Parts}
 
@@ -65,3 +66,19 @@ module _ {B : Type 0} (kind : Kind B) (x : Matrix B) (up low rest : List B) (som
 -- four rows and what is left
 pub length_four : {X : Type 0} (a b c d e : List X) (n : ℕ) → length a + (length b + (length c + (length d + length e))) ≡ n → length (a ++ (b ++ (c ++ (d ++ e)))) ≡ n
 length_four a b c d e n is = omega (arith, is, length-append a (b ++ (c ++ (d ++ e))), length-append b (c ++ (d ++ e)), length-append c (d ++ e), length-append d e)
+
+drop_front : {X : Type 0} (a b : List X) (n k : ℕ) → length a ≡ n → drop (n + k) (a ++ b) ≡ drop k b
+drop_front a b n k is = ap (λ m. drop (m + k) (a ++ b)) (sym is) ∙ drop-append-add a b k
+
+drop_four : {X : Type 0} (a b c d e : List X) → length a ≡ 13 → length b ≡ 13 → length c ≡ 9 → length d ≡ 9 → drop rows_cells (a ++ (b ++ (c ++ (d ++ e)))) ≡ e
+drop_four a b c d e p q r s =
+    drop_front a (b ++ (c ++ (d ++ e))) 13 31 p ∙ drop_front b (c ++ (d ++ e)) 13 18 q ∙ drop_front c (d ++ e) 9 9 r ∙ drop_front d e 9 0 s
+
+-- cells that were split into rows, and what is behind those
+pub split_four : {X : Type 0} (cells a b c d e rest more last : List X) → length a ≡ 13 → length b ≡ 13 → length c ≡ 9 → length d ≡ 9 → cells ≡ a ++ rest → rest ≡ b ++ more → more ≡ c ++ last → last ≡ d ++ e → drop rows_cells cells ≡ e
+split_four cells a b c d e rest more last p q r s by then after end =
+    ap (drop rows_cells) (by ∙ ap (λ x. a ++ x) (then ∙ ap (λ x. b ++ x) (after ∙ ap (λ x. c ++ x) end))) ∙ drop_four a b c d e p q r s
+
+-- the rows may be written
+pub same_behind : {X : Type 0} (cells a b c d e : List X) → length a ≡ 13 → length b ≡ 13 → length c ≡ 9 → length d ≡ 9 → drop rows_cells cells ≡ e → drop rows_cells (a ++ (b ++ (c ++ (d ++ e)))) ≡ drop rows_cells cells
+same_behind cells a b c d e p q r s is = drop_four a b c d e p q r s ∙ sym is

@@ -1,5 +1,5 @@
 -- What the zone that was worked out is, where the page holds the item's zone.
-use Rattle.std.proofs.Common.{◌≡◌, ℕ, zero, suc, ◌<◌, ◌≤◌, true, eqb, List, [], ◌∷◌, length, Some, None, Option, sym, ap, ◌∙◌, subst, arith}
+use Rattle.std.proofs.Common.{◌≡◌, ℕ, zero, suc, ◌<◌, ◌≤◌, true, eqb, List, [], ◌∷◌, length, Some, None, Option, sym, refl, ap, ◌∙◌, subst, arith}
 use Rattle.std.proofs.lemmas.Bool.{and_parts, cond-false, ne_eqb}
 use Rattle.std.proofs.lemmas.List.{get_or-map, length-map}
 use Rattle.bounds.specs.Kinds.{Kind}
@@ -128,10 +128,10 @@ module _ {B : Type 0} (kind : Kind B) (net : Net B) (limits : Limits kind net) (
   pub means_item : (zone t n : ℕ) (answer : Option Parts) → WorksOut kind net (page_zone kind page_places page) (item zone t n) before after answer → MeansItem kind net page_places page (item zone t n) before after answer
   means_item zero t n answer works target listed room due holds =
       whole_means target listed t n answer holds
-      (works.worked room (few target holds) (subst (λ i. PageDigits (digits net i n)) (sym due.0) tt))
+      (works.worked room (few target holds) (λ listed firing. absurd (listed refl)))
   means_item (suc zone) zero n answer works target listed room due holds =
       let asked : zone_asked kind net y (item (suc zone) 0 n) ≡ Some (delayed_kept kind y) = cond-false (eqb (suc zone) 0) _ _ (ne_eqb (suc zone) 0 (λ e. omega arith)) in
-      delay_means target listed zone n answer holds (subst (λ o. WorkedOut kind y.bound own o answer) asked (works.worked room (few (zone_named target listed (suc zone)) holds) tt))
+      delay_means target listed zone n answer holds (subst (λ o. WorkedOut kind y.bound own o answer) asked (works.worked room (few (zone_named target listed (suc zone)) holds) (λ listed firing. absurd (firing refl))))
   means_item (suc zone) (suc t) n answer works target listed room due holds =
       let z : Zone B = zone_named target listed (suc zone) in
       let arcs = arcs_of net (suc t) Output in
@@ -140,4 +140,4 @@ module _ {B : Type 0} (kind : Kind B) (net : Net B) (limits : Limits kind net) (
       let says = (and_parts (matches page_places arcs (digits net (suc t) n)) _ here).0 in
       let small : PageDigits (digits net (suc t) n) = every_less (suc (length page_places)) 9 (digits net (suc t) n) (omega (arith, few z holds)) (matches_below page_places arcs (digits net (suc t) n) says) in
       let asked = asked_firing kind net y (item (suc zone) (suc t) n) (λ e. omega arith) (λ e. omega arith) in
-      firing_means target listed zone t n answer holds says (subst (λ o. WorkedOut kind y.bound own o answer) asked (works.worked room (few z holds) small))
+      firing_means target listed zone t n answer holds says (subst (λ o. WorkedOut kind y.bound own o answer) asked (works.worked room (few z holds) (λ listed firing. small)))

@@ -1,6 +1,6 @@
 -- The zone that an item asks for, over the page of its zone as it is.
 use Rattle.std.specs.Prelude.{◌≡◌, ℕ, ◌+◌, ◌<◌, ◌≤◌, ◌==◌, if◌then◌else◌}
-use Rattle.std.specs.Prelude.{List, [], ◌∷◌, length, slice_index_or, Some, None, Option}
+use Rattle.std.specs.Prelude.{List, [], ◌∷◌, drop, length, slice_index_or, Some, None, Option}
 use Rattle.bounds.specs.Kinds.{Kind}
 use Rattle.nets.specs.Nets.{Arc, Every, Net, Transition, arcs_of, transition_of}
 use Rattle.nets.specs.declared.side.Side.TheVariants.{Input, Output}
@@ -81,13 +81,26 @@ rows_within kind cells =
 abbrev pub PageDigits : List ℕ → Type 0
 PageDigits ds = Every (λ d. d < page_row) ds
 
--- what stands in the page may be any bounds
+-- every digit of a firing is 0 or may be a token of a page; other items have none
+abbrev pub ItemDigits : {B : Type 0} → Net B → Item → Type 0
+ItemDigits net d =
+    (d.zone ≡ 0 → ⊥) → (d.transition ≡ 0 → ⊥) → PageDigits (digits net d.transition d.matching)
+
+-- nothing is worked out, and the cells are as they were
+pub record Untouched {B : Type 0} (before after : List B) (answer : Option Parts) : Type 0 where
+  pub none : answer ≡ None
+  pub cells : after ≡ before
+
+-- what stands in the page may be any bounds; the cells behind those that are worked in are kept
 pub record WorksOut {B : Type 0} (kind : Kind B) (net : Net B) (z : Zone B) (d : Item)
     (before after : List B) (answer : Option Parts) : Type 0 where
   pub kept : length after ≡ length before
-  pub worked : rows_cells ≤ length before → length z.places ≤ most_tokens →
-      PageDigits (digits net d.transition d.matching) →
+  pub behind : drop rows_cells after ≡ drop rows_cells before
+  pub worked : rows_cells ≤ length before → length z.places ≤ most_tokens → ItemDigits net d →
       WorkedOut kind z.bound (rows_within kind after) (zone_asked kind net z d) answer
+  pub short : length before < rows_cells → Untouched before after answer
+  pub crowded : most_tokens < length z.places → Untouched before after answer
+  pub past : (ItemDigits net d → ⊥) → answer ≡ None
 
 -- the zone that the cells of a page, the rows in other cells and the parts are
 abbrev pub shown : {B : Type 0} → Kind B → AskedZone B → Zone B
@@ -116,8 +129,8 @@ fired_over kind net transition matching page =
     fired_from kind (transition_of net transition) matching (zone_on_page kind page)
     (narrowed_from kind (arcs_of net transition Output) matching (in_page kind page.cells.now))
 
-abbrev pub WorksIn : {B : Type 0} → Kind B → Net B → Page B → Item → (up low : List B) →
-    Option Parts → Type 0
-WorksIn kind net page d up low answer =
-    PageDigits (digits net d.transition d.matching) →
-    WorkedIs kind page up low (zone_asked kind net (zone_on_page kind page) d) answer
+pub record WorksIn {B : Type 0} (kind : Kind B) (net : Net B) (page : Page B) (d : Item)
+    (up low : List B) (answer : Option Parts) : Type 0 where
+  pub worked : ItemDigits net d →
+      WorkedIs kind page up low (zone_asked kind net (zone_on_page kind page) d) answer
+  pub past : (ItemDigits net d → ⊥) → answer ≡ None

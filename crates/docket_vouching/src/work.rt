@@ -188,8 +188,9 @@ fn work_in<B: Bound, N: NetStore<B>>(
 }
 
 /// Works out the zone that an item asks for, from the page of the item's zone: what it is made of,
-/// and its rows in the first cells. None where the item is void; none too of a page of more than
-/// eight tokens or in too few cells.
+/// and its rows in the first cells; the cells behind are kept. None where the item is void; none
+/// too of a page of more than eight tokens, in too few cells, or of a firing with a digit that can
+/// be no token's.
 pub fn work_out<B: Bound, N: NetStore<B>>(
     store: &N,
     page: &Page<'_, B>,

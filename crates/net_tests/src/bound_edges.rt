@@ -1,4 +1,4 @@
-//! Edges of the kinds of bounds: plain, marked and compact.
+//! Edges of the kinds of bounds: plain, marked, and one's own.
 use bounds::{Bound, MakeError};
 #[cfg(test)]
 use std::process::Abort;
@@ -78,7 +78,7 @@ fn check_marks<B: Bound>(rt: &impl Abort) -> Result<(), Fail> {
 mod tests {
     use super::*;
     use bounds::{MarkedBound, PlainBound, Range};
-    use bounds_compact::CompactBound;
+    use bounds_own::OwnBound;
 
     #[test]
     fn plain_edges(rt: HostRuntime) -> Result<(), Fail> {
@@ -96,10 +96,19 @@ mod tests {
     }
 
     #[test]
-    fn compact_edges(rt: HostRuntime) -> Result<(), Fail> {
-        check_edges::<CompactBound>(&rt)?;
-        check_sums::<CompactBound>(&rt)?;
-        check_marks::<CompactBound>(&rt)
+    fn own_edges(rt: HostRuntime) -> Result<(), Fail> {
+        check_edges::<OwnBound>(&rt)?;
+        check_sums::<OwnBound>(&rt)?;
+        check_marks::<OwnBound>(&rt)
+    }
+
+    #[test]
+    fn own_bounds_past_the_limits(rt: HostRuntime) -> Result<(), Fail> {
+        assert_eq!(rt; OwnBound::make(3, true), Ok(OwnBound::Below(3)));
+        let largest = OwnBound::AtMost(i64::MAX);
+        assert_eq!(rt; largest.sum(OwnBound::Below(1)), OwnBound::NoLimit);
+        assert!(rt; below(largest, OwnBound::NoLimit));
+        Ok(())
     }
 
     #[test]

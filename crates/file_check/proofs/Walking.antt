@@ -1,15 +1,17 @@
 -- A walk through several asks, one after the other.
 --     start, first    the file where the walk began, and what the watcher had said then
 --     f, said         the file and the watcher as they are now
-use Rattle.std.specs.Prelude.{nat_lt}
+use Rattle.std.specs.Prelude.{Bool, true, false, cond, nat_lt}
 use Rattle.std.proofs.Common.{◌≡◌, ℕ, suc, ◌+◌, ◌-◌, ◌<◌, ◌≤◌, List, [], ◌∷◌, ◌++◌, length, take, drop, Ok, Err, Result, refl, sym, ap, ◌∙◌, subst, arith, length-drop}
 use Rattle.std.proofs.lemmas.Bool.{cond-false, le-ltb}
 use Rattle.bounds.specs.Kinds.{Kind}
 use Rattle.docket_records.specs.DocketRecords.{docket_header_of}
 use Rattle.docket_records.specs.Vouchers.{voucher_of}
 use Rattle.docket_records.specs.declared.docket_header.DocketHeader.{DocketHeader}
+use Rattle.docket_records.specs.declared.fault.EntryRefusal.{EntryRefusal}
+use Rattle.docket_records.specs.declared.fault.EntryRefusal.TheVariants.{WrongLength}
 use Rattle.docket_rules.specs.Calls.{Call, Close, Discharge, Open}
-use Rattle.docket_rules.specs.Tables.{Answer}
+use Rattle.docket_rules.specs.Tables.{Answer, given as as_lists}
 use Rattle.docket_rules.specs.Worlds.{State, World, listed_count}
 use Rattle.docket_rules.specs.declared.stage.Stage.{Stage}
 use Rattle.docket_rules.specs.declared.stage.Stage.TheVariants.{Blank, Listing, Proving, Sealed}
@@ -113,6 +115,17 @@ module _ {B : Type 0} (words : Words B) (kind : Kind B) where
     vouchers_all end =
         let none : voucher_count kind f.unread.rest ≡ 0 = omega (arith, end) in
         subst (λ (j : ℕ). Going start asks first f (vouchers_asked kind j f.unread.next f.unread.rest) said) none going
+
+  -- ---- the target, which is told once it is taken
+  taken_where : (short : Bool) (f v : Filed B) (at : ℕ) (refusal : EntryRefusal) (call : Answer → Call B) (said heard : List ℕ) (later : List (Ask B)) → heard ≡ said ++ call_words words f.world v.world (call (Ok tt)) → AskMade kind f.net f.world (cond short (Refuse at refusal) (Make at call)) v.world (Ok tt) → v.net ≡ f.net → (last : List ℕ) (line : Line) → TellsFrom words kind v later heard last line → TellsFrom words kind f (cond short (Refuse at refusal) (Make at call) ∷ later) said last line
+  taken_where true f v at refusal call said heard later told made same last line h = absurd made
+  taken_where false f v at refusal call said heard later told made same last line h =
+      let under = subst (λ (n : Net B). TellsIn words kind n v.world later heard last line) same h in
+      (Ok tt, v.world, made, subst (λ t. TellsIn words kind f.net v.world later t last line) told under)
+
+  pub target_taken : (f v : Filed B) (lists : InitialLists) (said heard : List ℕ) → heard ≡ said ++ words.zone v.world → (later : List (Ask B)) → Called kind (opening_ask kind lists f.unread) f (Ok tt) v → (last : List ℕ) (line : Line) → TellsFrom words kind v later heard last line → TellsFrom words kind f (opening_ask kind lists f.unread ∷ later) said last line
+  target_taken f v lists said heard told later made =
+      taken_where (nat_lt (length f.unread.rest) 192) f v f.unread.next WrongLength (Open (as_lists lists.places.items lists.ages.items) (take 192 f.unread.rest) (scratch_page kind)) said heard later told made.made made.net
 
   -- ---- a voucher, whose record was taken before it is told
   module _ (f g v : Filed B) (waits : Waits f g) (bytes : List ℕ) (at : ℕ) (there : 6 ≤ length f.unread.rest) (is : bytes ≡ take 6 f.unread.rest) (here : at ≡ f.unread.next) (said heard : List ℕ) (told : heard ≡ said ++ words.voucher g.world.state (voucher_of bytes)) (later : List (Ask B)) where

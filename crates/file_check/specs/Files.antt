@@ -47,8 +47,8 @@ abbrev pub read_at : {X : Type 0} → (at : ℕ) → Result X EntryRefusal → R
 read_at at (Ok x) = Ok x
 read_at at (Err refusal) = Err (record { refusal = InCall (Entry refusal); at = at })
 
-pub record Reads {B X : Type 0} (size : ℕ) (said : List ℕ →
-    Result X EntryRefusal) (before : Filed B) (answer : Result X FileFault) (after : Filed B) : Type 0 where
+pub record Reads {B X : Type 0} (size : ℕ) (said : List ℕ → Result X EntryRefusal)
+    (before : Filed B) (answer : Result X FileFault) (after : Filed B) : Type 0 where
   pub read : answer ≡ read_at before.unread.next (said (take size before.unread.rest))
   pub left : after.unread ≡ asked size before.unread
   pub moved : Moved size before.unread answer after.unread
@@ -80,13 +80,11 @@ AskMade kind net w (Refuse at refusal) v (Err fault) =
     (fault ≡ record { refusal = InCall (Entry refusal); at = at }) × (v ≡ w)
 AskMade kind net w (Make at call) v (Ok u) = Step kind net w (call (Ok tt)) v
 AskMade kind net w (Make at call) v (Err fault) =
-    (r : CallRefusal) × Step kind net w (call (Err r)) v × (fault ≡ record {
-      refusal =
-          InCall r;
-      at = at;
-    })
+    (r : CallRefusal) × Step kind net w (call (Err r)) v
+    × (fault ≡ record { refusal = InCall r; at = at })
 
-pub record Called {B : Type 0} (kind : Kind B) (ask : Ask B) (before : Filed B) (answer : Result (Unit {0}) FileFault) (after : Filed B) : Type 0 where
+pub record Called {B : Type 0} (kind : Kind B) (ask : Ask B) (before : Filed B)
+    (answer : Result (Unit {0}) FileFault) (after : Filed B) : Type 0 where
   pub made : AskMade kind before.net before.world ask after.world answer
   pub net : after.net ≡ before.net
 

@@ -9,7 +9,7 @@ ghost use Rattle.docket_rules.specs.Worlds.{page_cells_at, listed_count, page_pl
 ghost use Rattle.file_check.specs.Files.{Called, IsLine, PartTaken, Reads, Waits, beginning, filed};
 ghost use Rattle.file_check.specs.Files.{opening_ask};
 ghost use Rattle.file_rules.specs.Asks.{Make, scratch_page, zone_ask};
-ghost use Rattle.net_records.specs.Parts.{Moved};
+ghost use Rattle.net_records.specs.Parts.{Moved, asked};
 ghost use Rattle.std.specs.Prelude.{◌≡◌, ◌==◌, ◌<◌, length};
 
 use crate::initial::InitialLists;
@@ -29,9 +29,10 @@ use std::marker::Model;
 use zone_drafts::draft::DRAFT_CELLS;
 use zone_pages::{Book, Page, wipe};
 
-/// A file between two steps. After an error it is not read on: docket and book are then as before,
-/// and of what is left to read nothing is said.
-// Slices, as of a field that is an array of any kind's bounds it is not proved that its bytes are fewer than 2^63.
+/// A file between two steps. After an error docket and book are as before. What is left to read
+/// begins behind the record that was refused; where a record is cut short, nothing was read of it.
+// Slices, as of a field that is an array of any kind's bounds it is not proved that its bytes are
+// fewer than 2^63.
 #[derive(Drop)]
 pub struct DocketFile<'a, 'm, B: Bound> {
     net: PackedNet<'a>,
@@ -176,6 +177,7 @@ impl<'a, 'm, B: Bound> DocketFile<'a, 'm, B> {
         ensures made { Called B.Bound.kind
             (opening_ask B.Bound.kind initial.now self.old.unread) self.old result self.new }
         ensures moved { Moved zone_size self.old.unread result self.new.unread }
+        ensures left { self.new.unread ≡ asked zone_size self.old.unread }
     {
         let Part { bytes, at } = self.reader.part(ZONE_SIZE)?;
         let cells = &mut *self.cells;
@@ -199,6 +201,7 @@ impl<'a, 'm, B: Bound> DocketFile<'a, 'm, B> {
             (zone_ask B.Bound.kind self.old.unread.next self.old.unread.rest)
             self.old result self.new }
         ensures moved { Moved zone_size self.old.unread result self.new.unread }
+        ensures left { self.new.unread ≡ asked zone_size self.old.unread }
     {
         let Part { bytes, at } = self.reader.part(ZONE_SIZE)?;
         let cells = &mut *self.cells;

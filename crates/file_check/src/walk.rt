@@ -63,7 +63,8 @@ impl<'a, 'm, B: Bound> DocketFile<'a, 'm, B> {
         ensures moved { Moved zone_size self.old.unread result self.new.unread }
     {
         self.target(initial)?;
-        watcher.zone(self).map_err(|stop| Ended::Stopped(stop))
+        watcher.zone(self).map_err(|stop| Ended::Stopped(stop))?;
+        Ok(())
     }
 
     fn told_zone<W: Watcher<B>>(&mut self, watcher: &mut W) -> Result<(), Ended<W::Stop>>
@@ -72,7 +73,8 @@ impl<'a, 'm, B: Bound> DocketFile<'a, 'm, B> {
         ensures moved { Moved zone_size self.old.unread result self.new.unread }
     {
         self.zone()?;
-        watcher.zone(self).map_err(|stop| Ended::Stopped(stop))
+        watcher.zone(self).map_err(|stop| Ended::Stopped(stop))?;
+        Ok(())
     }
 
     // The watcher hears of a voucher before the docket answers it.
@@ -91,7 +93,8 @@ impl<'a, 'm, B: Bound> DocketFile<'a, 'm, B> {
     }
 
     // ---- several records
-    // The tokens one by one, and the two lists of them. What is wrong with the marking that they are, open answers.
+    // The tokens one by one, and the two lists of them. What is wrong with the marking that they
+    // are, open answers.
     fn told_tokens<W: Watcher<B>>(
         &mut self,
         watcher: &mut W,
@@ -189,7 +192,8 @@ impl<'a, 'm, B: Bound> DocketFile<'a, 'm, B> {
         Ok(line)
     }
 
-    /// Makes every call that the records ask for, and comes to the line, unless the watcher stops it.
+    /// Makes every call that the records ask for, and comes to the line, unless the watcher stops
+    /// it. How the file stands afterwards is not said: the line says what came of it.
     pub fn walk<W: Watcher<B>>(&mut self, watcher: &mut W) -> Result<Line, W::Stop>
         ensures told { IfOk result (λ line.
             TellsAll W.Watcher.words B.Bound.kind self.old (W.Watcher.said watcher.old)

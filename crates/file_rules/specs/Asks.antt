@@ -1,10 +1,11 @@
--- What a file asks for after its net records: calls on a blank docket in their order, each with the number of its record.
+-- What a file asks for after its net records: calls on a blank docket in their order, each with the
+-- number of its record.
 --     docket header      how many initial tokens and listed zones follow
 --     initial tokens     with the target, what open is given
 --     zones              one post each; after the last comes the close, which has no record
 --     vouchers           one discharge each, to the end of the file
--- A record that is cut short, or has a spare bit set where no call looks, is refused before any call.
--- Whoever watches the walk hears of each record in his own words.
+-- A record that is cut short, or has a spare bit set where no call looks, is refused before any
+-- call. Whoever watches the walk hears of each record in his own words.
 use Rattle.std.specs.Prelude.{ℕ, zero, suc, ◌+◌, ◌*◌, ◌/◌, List, [], ◌∷◌, ◌++◌, map, length, take}
 use Rattle.std.specs.Prelude.{drop, replicate, Ok, Err, Result, nat_lt, if◌then◌else◌}
 use Rattle.bounds.specs.Kinds.{Kind}

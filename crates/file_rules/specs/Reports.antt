@@ -1,13 +1,14 @@
 -- The line that a file comes to.
 --     world    the docket and the book, as they stand between two calls
--- The calls that a file asks for are made one after the other, from a blank docket on, until one is refused or none is left.
-use Rattle.std.specs.Prelude.{◌≡◌, ℕ, List, [], ◌∷◌, take, replicate, Ok, Err, Some, None, Option}
+-- The calls that a file asks for are made one after the other, from a blank docket on, until one is
+-- refused or none is left.
+use Rattle.std.specs.Prelude.{◌≡◌, ℕ, List, [], ◌∷◌, replicate, Ok, Err, Some, None, Option}
 use Rattle.bounds.specs.Kinds.{Kind}
 use Rattle.bounds.specs.MarkedKind.{marked_kind}
 use Rattle.bounds.specs.PlainKind.{plain_kind}
 use Rattle.nets.specs.Nets.{Net}
 use Rattle.net_records.specs.NetBytes.{first_later, later_records, net_of}
-use Rattle.net_records.specs.NetRecords.{net_header_of, net_fault}
+use Rattle.net_records.specs.NetRecords.{front_header, net_fault}
 use Rattle.net_records.specs.Refusals.{NetFault}
 use Rattle.net_records.specs.declared.header.NetKind.{NetKind}
 use Rattle.net_records.specs.declared.header.NetKind.TheVariants.{Plain, Marked}
@@ -54,7 +55,8 @@ blank_world kind = with_book blank (replicate book_cells kind.no_limit) (replica
 
 abbrev pub ReportsUnder : {B : Type 0} → Kind B → List ℕ → Line → Type 0
 ReportsUnder kind bytes line =
-    Runs kind (net_of kind bytes) (blank_world kind) (docket_asked kind (first_later bytes) (later_records bytes)) line
+    Runs kind (net_of kind bytes) (blank_world kind)
+    (docket_asked kind (first_later bytes) (later_records bytes)) line
 
 -- by the kind of the net header
 abbrev pub ReportsOf : NetKind → List ℕ → Line → Type 0
@@ -62,7 +64,7 @@ ReportsOf Plain bytes line = ReportsUnder plain_kind bytes line
 ReportsOf Marked bytes line = ReportsUnder marked_kind bytes line
 
 abbrev pub net_kind_of : List ℕ → NetKind
-net_kind_of bytes = (net_header_of (take 4 bytes)).kind
+net_kind_of bytes = (front_header bytes).kind
 
 abbrev pub ReportsBy : List ℕ → Option NetFault → Line → Type 0
 ReportsBy bytes None line = ReportsOf (net_kind_of bytes) bytes line

@@ -1,5 +1,5 @@
--- What a line says of the bytes: of a sealed one, that the net which they say is safe; of a due one, which item is next.
---
+-- What a line says of the bytes: of a sealed one, that the net which they say is safe; of a due
+-- one, which item is next.
 use Rattle.std.specs.Prelude.{◌≡◌, ℕ, zero, suc, ◌+◌, ◌*◌, List, [], ◌∷◌, take, drop, length, Some}
 use Rattle.std.specs.Prelude.{None}
 use Rattle.bounds.specs.Kinds.{Kind}
@@ -55,7 +55,8 @@ zones_of kind (suc n) rest =
 
 abbrev pub listed_of : {B : Type 0} → Kind B → List ℕ → List (Zone B)
 listed_of kind bytes =
-    zones_of kind (file_header_of bytes).zones (drop (target_start bytes + zone_size) (later_records bytes))
+    zones_of kind (file_header_of bytes).zones
+    (drop (target_start bytes + zone_size) (later_records bytes))
 
 -- what is due for the net and these zones after so many vouchers, the earliest first
 abbrev pub left_of : {B : Type 0} → Kind B → List ℕ → (vouchers : ℕ) → List Item

@@ -176,7 +176,8 @@ fn strict_bounds_are_refused_under_plain_kind(rt: HostRuntime) -> Result<(), All
     Ok(())
 }
 
-// A target of nine tokens that is cut short, and with an initial token in place 2, which is tested before it.
+// A target of nine tokens that is cut short, and with an initial token in place 2, which is tested
+// before it.
 #[test]
 fn the_first_fault_of_an_open_counts(rt: HostRuntime) -> Result<(), AllocError> {
     for (token, length, line) in [

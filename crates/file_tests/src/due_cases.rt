@@ -38,8 +38,9 @@ const BY_ZONE_3: [u8; 6] = [0x06, 0x20, 0, 0, 0, 0];
 
 const VOID: [u8; 6] = [0x80, 0, 0, 0, 0, 0];
 
-// The target and zone 1 are a token of age 1 and more in place 1, zone 2 one of any age there, zone 3 one in place 0. No token at first:
-// records 0 and 1 of the net, 2 the docket header, 3 the target, 4 to 6 the zones, then the vouchers.
+// The target and zone 1 are a token of age 1 and more in place 1, zone 2 one of any age there,
+// zone 3 one in place 0. No token at first: records 0 and 1 of the net, 2 the docket header,
+// 3 the target, 4 to 6 the zones, then the vouchers.
 fn check_old(
     rt: &impl Abort,
     heap: Global,

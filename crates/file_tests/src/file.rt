@@ -57,8 +57,9 @@ pub const VOUCHERS: [[u8; 6]; 10] = [
     ZONE_1, ZONE_1, ZONE_1, ZONE_2, ZONE_2, ZONE_2, ZONE_2, ZONE_3, ZONE_3, ZONE_3,
 ];
 
-// From place 0, age 1 to 2, into place 1 at age 0; a token in place 0 at first. Records: 0 and 1 of the net, 2 the docket header, 3 the
-// initial token, 4 the target, 5 to 7 the zones, 8 to 17 the vouchers.
+// From place 0, age 1 to 2, into place 1 at age 0; a token in place 0 at first. Records: 0 and 1 of
+// the net, 2 the docket header, 3 the initial token, 4 the target, 5 to 7 the zones, 8 to 17 the
+// vouchers.
 pub const CARRIERS: File<'static> = File {
     net: [0x01, 0x02, 0x00, 0x00],
     taken: [0x00, 0x00, 0x04, 0x00, 0x04],

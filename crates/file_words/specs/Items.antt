@@ -38,7 +38,8 @@ due_text None = codes "no item"
 due_text (Some d) = item_text d
 
 -- ---- a voucher
--- the zone that vouches, and for each of its tokens in their order the token of the item that it is paired with
+-- the zone that vouches, and for each of its tokens in their order the token of the item that it is
+-- paired with
 abbrev pub claim_text : Voucher → (used : ℕ) → List ℕ
 claim_text v used =
     if v.void then codes "void"

@@ -1,7 +1,6 @@
 -- The bounds of a zone, written for people as a table.
 --     words     how a bound is written
---     bounds    the bound on the age of one point less the age of another, by the numbers of the two
---
+--     bounds    the bound on the age of one point less the age of another, by their numbers
 use Rattle.std.specs.Prelude.{ℕ, zero, suc, List, [], ◌∷◌, ◌++◌, codes, decimal, ◌==◌}
 use Rattle.std.specs.Prelude.{if◌then◌else◌}
 

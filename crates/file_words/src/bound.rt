@@ -7,7 +7,8 @@ ghost use Rattle.bounds.specs.Texts.{limit_text};
 use bounds::{Bound, MarkedBound, PlainBound};
 use std::alloc::AllocError;
 
-/// Each kind writes itself: one body over a bound `Display` would ask more of whoever brings a kind.
+/// Each kind writes itself: one body over a bound `Display` would ask more of whoever brings a
+/// kind.
 pub trait BoundWords: Bound {
     ghost words: { Self → List ℕ };
 

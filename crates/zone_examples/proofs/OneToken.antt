@@ -1,24 +1,22 @@
 -- Zones of one token, by their two bounds, over every kind.
-use Rattle.std.proofs.Common.{◌≡◌, ℕ, zero, suc, Bool, true, false, [], ◌∷◌, ℤ, pos, neg_ℤ, sym, refl, ap, ◌∙◌, subst, arith}
+use Rattle.std.proofs.Common.{◌≡◌, ℕ, zero, suc, Bool, true, false, Some, [], ◌∷◌, ℤ, pos, neg_ℤ, sym, refl, ap, ◌∙◌, subst, arith}
 use lib.Signed.{le_z}
 use Rattle.bounds.specs.Kinds.{Kind, Named, place}
-use Rattle.bounds.specs.Limits.{Limit}
-use Rattle.bounds.specs.Limits.Limit.{number}
 use Rattle.zone_walks.specs.Walks.{lesser, counted, Still}
 use Rattle.zone_walks.proofs.Lessers.{lesser_is_left}
 use Rattle.zone_walks.proofs.NormalForms.{same_back}
 use Rattle.zone_walks.proofs.Sums.{zero_after}
 use Rattle.zones.specs.Zones.{Inconsistent}
 use Rattle.zone_examples.specs.WorkedExamples.{plus, minus, strictly, one_token}
-use Rattle.zone_examples.proofs.Computed.{each, plain_named}
+use Rattle.zone_examples.proofs.Computed.{Entry, each, unmarked_named}
 use Rattle.zone_examples.proofs.Squares.{pair, pair_same, Solved, solved}
 
--- the limits n and -n
-abbrev pub up : ℕ → Limit
-up n = number (pos n) false
+-- the numbers n and -n
+abbrev pub up : ℕ → Entry
+up n = Some (pos n)
 
-abbrev pub down : ℕ → Limit
-down n = number (neg_ℤ (pos n)) false
+abbrev pub down : ℕ → Entry
+down n = Some (neg_ℤ (pos n))
 
 module _ {B : Type 0} (kind : Kind B) where
   pub three_three_solved : Solved kind 2 (counted kind (one_token kind 0 (plus kind 3) (minus kind 3)).bound) (one_token kind 0 (plus kind 3) (minus kind 3)).bound
@@ -27,10 +25,10 @@ module _ {B : Type 0} (kind : Kind B) where
       solved kind 2 z.bound z.bound (pair (down 3) (up 3)) (pair (down 3) (up 3)) (omega arith) (pair_same kind 0 (down 3) (up 3)) (same_back kind 2 z.bound (each kind (pair (down 3) (up 3))) (pair_same kind 0 (down 3) (up 3))) refl
 
   low : Named kind.marks (neg_ℤ (pos 3)) false
-  low = plain_named kind (neg_ℤ (pos 3)) false refl
+  low = unmarked_named kind (neg_ℤ (pos 3)) refl
 
   origin : Named kind.marks (pos 0) false
-  origin = plain_named kind (pos 0) false refl
+  origin = unmarked_named kind (pos 0) refl
 
   at_least_three : lesser kind (minus kind 3) kind.zero ≡ minus kind 3
   at_least_three =
@@ -54,8 +52,8 @@ module _ {B : Type 0} (kind : Kind B) where
 
   pub two_three : Inconsistent kind (one_token kind 0 (plus kind 2) (minus kind 3))
   two_three =
-      let two = plain_named kind (pos 2) false refl in
-      around (pos 2) (neg_ℤ (pos 1)) false two (plain_named kind (neg_ℤ (pos 1)) false refl) (kind.numbers_sum (neg_ℤ (pos 3)) (pos 2) false false low two) refl
+      let two = unmarked_named kind (pos 2) refl in
+      around (pos 2) (neg_ℤ (pos 1)) false two (unmarked_named kind (neg_ℤ (pos 1)) refl) (kind.numbers_sum (neg_ℤ (pos 3)) (pos 2) false false low two) refl
 
   pub below_three : kind.marks ≡ true → Inconsistent kind (one_token kind 0 (strictly kind 3) (minus kind 3))
   below_three m =

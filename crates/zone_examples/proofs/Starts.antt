@@ -9,7 +9,7 @@ use Rattle.zones.proofs.Bags.{Taken, Without, taken_back}
 use Rattle.zones.proofs.Bags.Taken.{here, there}
 use Rattle.zones.proofs.Between.{Between, to_counted, from_counted}
 use Rattle.zones.specs.Zones.{Satisfies, age_of}
-use Rattle.zone_examples.proofs.Computed.{plain_named}
+use Rattle.zone_examples.proofs.Computed.{unmarked_named}
 use Rattle.zone_examples.specs.WorkedExamples.{no_tokens, one_token, plus, strictly, token_of_age}
 
 -- the token that a bag of one token has
@@ -59,7 +59,7 @@ module _ {B : Type 0} (kind : Kind B) where
         }
 
   pub two_at_most_two : Satisfies kind 1 (one_token kind 0 (plus kind 2) kind.no_limit) (token_of_age 2)
-  two_at_most_two = allowed_age (plus kind 2) 2 (kind.numbers_allow 1 (pos 2) false (pos 2) (omega arith) (plain_named kind (pos 2) false refl))
+  two_at_most_two = allowed_age (plus kind 2) 2 (kind.numbers_allow 1 (pos 2) false (pos 2) (omega arith) (unmarked_named kind (pos 2) refl))
 
   pub one_below_two : kind.marks ≡ true → Satisfies kind 1 (one_token kind 0 (strictly kind 2) kind.no_limit) (token_of_age 1)
   one_below_two m = allowed_age (strictly kind 2) 1 (kind.numbers_allow 1 (pos 2) true (pos 1) (omega arith) (record { small = omega arith; takes = λ e. m }))

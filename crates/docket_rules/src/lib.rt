@@ -7,5 +7,5 @@
 pub mod laws;
 pub mod stage;
 
-pub use laws::{calls_keep_laws, seals_keep_promises};
+pub use laws::{calls_keep_laws, calls_keep_pages, seals_keep_promises};
 pub use stage::Stage;

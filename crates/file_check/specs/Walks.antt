@@ -14,7 +14,7 @@ use Rattle.file_rules.specs.Asks.{initial_tokens_of, marking_asked, places_given
 use Rattle.file_rules.specs.Asks.{token_ask, tokens_asked, voucher_ask, voucher_count}
 use Rattle.file_rules.specs.Asks.{vouchers_asked, zone_ask, zones_asked}
 use Rattle.file_rules.specs.Reports.{Runs}
-use Rattle.file_rules.specs.Telling.{Tells as TellsIn}
+use Rattle.file_rules.specs.Telling.{Outcome, Tells as TellsIn, outcome}
 use Rattle.file_rules.specs.declared.line.Line.{Line}
 use Rattle.file_rules.specs.declared.line.Line.TheVariants.{Refused as RefusedLine}
 use Rattle.net_records.specs.Parts.{Unread}
@@ -64,12 +64,14 @@ RunsAll kind file line = Runs kind file.net file.world (docket_next kind file.un
 
 module _ {B : Type 0} (words : Words B) (kind : Kind B) where
   -- ---- from this file on
-  abbrev pub TellsFrom : Filed B → List (Ask B) → (before last : List ℕ) → Line → Type 0
-  TellsFrom file asks before last line =
-      TellsIn words kind file.net file.world asks before last line
+  abbrev pub TellsFrom : Filed B → List (Ask B) → (before last : List ℕ) → Outcome B → Type 0
+  TellsFrom file asks before last out = TellsIn words kind file.net file.world asks before last out
 
-  abbrev pub TellsAll : Filed B → (before last : List ℕ) → Line → Type 0
-  TellsAll file before last line = TellsFrom file (docket_next kind file.unread) before last line
+  -- to the end of the file, which leaves it so
+  abbrev pub TellsAll : (file : Filed B) → (before : List ℕ) → (after : Filed B) →
+      (last : List ℕ) → Line → Type 0
+  TellsAll file before after last line =
+      TellsFrom file (docket_next kind file.unread) before last (outcome after.world line)
 
   -- ---- a step of the walk, or several
   -- what is told from here on, with all that was told before it, is what is told from the start; a
@@ -77,11 +79,11 @@ module _ {B : Type 0} (words : Words B) (kind : Kind B) where
   abbrev pub Passes : {X S : Type 0} → Filed B → List (Ask B) → (before : List ℕ) → Filed B →
       (later : List (Ask B)) → (said : List ℕ) → Result X (Ended S) → Type 0
   Passes file asks before after later said (Ok x) =
-      (last : List ℕ) (line : Line) →
-      TellsFrom after later said last line →
-      TellsFrom file asks before last line
+      (last : List ℕ) (out : Outcome B) →
+      TellsFrom after later said last out →
+      TellsFrom file asks before last out
   Passes file asks before after later said (Err (Refused fault)) =
-      TellsFrom file asks before said (RefusedLine fault)
+      TellsFrom file asks before said (outcome after.world (RefusedLine fault))
   Passes file asks before after later said (Err (Stopped s)) = Unit {0}
 
   -- through one ask, whatever comes later
@@ -106,12 +108,13 @@ module _ {B : Type 0} (words : Words B) (kind : Kind B) where
       Passes file (here kind file.unread) before after (then' kind after.unread) said answer
 
   -- the whole walk: the line, also of a refusal
-  abbrev pub Comes : {S : Type 0} → Filed B → List (Ask B) → (before last : List ℕ) →
-      Result Line (Ended S) → Type 0
-  Comes file asks before last (Ok line) = TellsFrom file asks before last line
-  Comes file asks before last (Err (Refused fault)) =
-      TellsFrom file asks before last (RefusedLine fault)
-  Comes file asks before last (Err (Stopped s)) = Unit {0}
+  abbrev pub Comes : {S : Type 0} → Filed B → List (Ask B) → (before : List ℕ) →
+      (after : Filed B) → (last : List ℕ) → Result Line (Ended S) → Type 0
+  Comes file asks before after last (Ok line) =
+      TellsFrom file asks before last (outcome after.world line)
+  Comes file asks before after last (Err (Refused fault)) =
+      TellsFrom file asks before last (outcome after.world (RefusedLine fault))
+  Comes file asks before after last (Err (Stopped s)) = Unit {0}
 
 -- ---- the initial tokens
 -- the lists of n tokens

@@ -181,7 +181,7 @@ impl<'a, 'm, B: Bound> DocketFile<'a, 'm, B> {
     fn records<W: Watcher<B>>(&mut self, watcher: &mut W) -> Result<Line, Ended<W::Stop>>
         ensures { Comes W.Watcher.words B.Bound.kind self.old
             (docket_next B.Bound.kind self.old.unread)
-            (W.Watcher.said watcher.old) (W.Watcher.said watcher.new) result }
+            (W.Watcher.said watcher.old) self.new (W.Watcher.said watcher.new) result }
     {
         let header = self.told_header(watcher)?;
         self.listing(watcher, header)?;
@@ -197,7 +197,7 @@ impl<'a, 'm, B: Bound> DocketFile<'a, 'm, B> {
     pub fn walk<W: Watcher<B>>(&mut self, watcher: &mut W) -> Result<Line, W::Stop>
         ensures told { IfOk result (λ line.
             TellsAll W.Watcher.words B.Bound.kind self.old (W.Watcher.said watcher.old)
-            (W.Watcher.said watcher.new) line) }
+            self.new (W.Watcher.said watcher.new) line) }
         ensures line { IfOk result (λ line. RunsAll B.Bound.kind self.old line) }
     {
         match self.records(watcher) {

@@ -17,6 +17,14 @@ use Rattle.file_rules.specs.declared.line.Line.TheVariants.{Refused}
 use Rattle.net_records.specs.NetBytes.{first_later, later_records, net_of}
 use Rattle.nets.specs.Nets.{Net}
 
+-- the line that a file comes to, and the docket and the book as it leaves them
+pub record Outcome (B : Type 0) : Type 0 where
+  pub line : Line
+  pub world : World B
+
+abbrev pub outcome : {B : Type 0} → World B → Line → Outcome B
+outcome world line = record { line = line; world = world }
+
 module _ {B : Type 0} (words : Words B) where
   -- ---- what is said of a call
   -- a zone that was taken
@@ -34,24 +42,27 @@ module _ {B : Type 0} (words : Words B) where
 
   module _ (kind : Kind B) (net : Net B) where
     -- ---- the calls, one after the other, as `Runs` makes them
-    abbrev pub TellsOn : (at : ℕ) → Answer → (said last : List ℕ) → Line → Type 0 → Type 0
-    TellsOn at (Ok u) said last line later = later
-    TellsOn at (Err r) said last line later =
-        (last ≡ said) × (line ≡ Refused (record { refusal = InCall r; at = at }))
+    abbrev pub TellsOn : (at : ℕ) → Answer → World B → (said last : List ℕ) → Outcome B →
+        Type 0 → Type 0
+    TellsOn at (Ok u) v said last out later = later
+    TellsOn at (Err r) v said last out later =
+        (last ≡ said) × (out ≡ outcome v (Refused (record { refusal = InCall r; at = at })))
 
-    abbrev pub Tells : World B → List (Ask B) → (before last : List ℕ) → Line → Type 0
-    Tells w [] before last line = (last ≡ before) × Ends w.state w.state.stage line
-    Tells w (Read said ∷ later) before last line = Tells w later (before ++ said words) last line
-    Tells w (Refuse at refusal ∷ later) before last line =
-        (last ≡ before) × (line ≡ Refused (record { refusal = InCall (Entry refusal); at = at }))
-    Tells w (Make at call ∷ later) before last line =
+    abbrev pub Tells : World B → List (Ask B) → (before last : List ℕ) → Outcome B → Type 0
+    Tells w [] before last out =
+        (last ≡ before) × (out.world ≡ w) × Ends w.state w.state.stage out.line
+    Tells w (Read said ∷ later) before last out = Tells w later (before ++ said words) last out
+    Tells w (Refuse at refusal ∷ later) before last out =
+        (last ≡ before)
+        × (out ≡ outcome w (Refused (record { refusal = InCall (Entry refusal); at = at })))
+    Tells w (Make at call ∷ later) before last out =
         (answer : Answer) × (v : World B) × Step kind net w (call answer) v
-        × TellsOn at answer (before ++ call_words w v (call answer)) last line
-        (Tells v later (before ++ call_words w v (call answer)) last line)
+        × TellsOn at answer v (before ++ call_words w v (call answer)) last out
+        (Tells v later (before ++ call_words w v (call answer)) last out)
 
 -- the docket part of a whole file, from a blank docket on
-abbrev pub TellsUnder : {B : Type 0} → Words B → Kind B → List ℕ → (before last : List ℕ) → Line →
-    Type 0
-TellsUnder words kind bytes before last line =
+abbrev pub TellsUnder : {B : Type 0} → Words B → Kind B → List ℕ → (before last : List ℕ) →
+    Outcome B → Type 0
+TellsUnder words kind bytes before last out =
     Tells words kind (net_of kind bytes) (blank_world kind)
-    (docket_asked kind (first_later bytes) (later_records bytes)) before last line
+    (docket_asked kind (first_later bytes) (later_records bytes)) before last out

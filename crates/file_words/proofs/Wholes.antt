@@ -5,6 +5,7 @@ use Rattle.std.proofs.lemmas.Bool.{le-leb, leb-true, lt-leb}
 use Rattle.bounds.specs.Kinds.{Kind}
 use Rattle.bounds.specs.MarkedKind.{marked_kind}
 use Rattle.bounds.specs.PlainKind.{plain_kind}
+use Rattle.docket_rules.specs.Worlds.{World}
 use Rattle.file_check.specs.Files.{Filed, beginning}
 use Rattle.file_check.specs.Walks.{TellsFrom}
 use Rattle.file_rules.specs.Asks.{docket_asked}
@@ -12,10 +13,12 @@ use Rattle.file_rules.specs.Reports.{Reports, ReportsBy, ReportsOf, Runs, net_ki
 use Rattle.file_rules.specs.declared.fault.FileRefusal.TheVariants.{Net as InNet}
 use Rattle.file_rules.specs.declared.line.Line.{Line}
 use Rattle.file_rules.specs.declared.line.Line.TheVariants.{Refused}
+use Rattle.file_rules.specs.Telling.{outcome}
+use Rattle.file_words.specs.Asked.{DueAdded}
 use Rattle.file_words.specs.Lines.{last_line}
 use Rattle.file_words.specs.Told.{EndsInLine, Ending, FileTold, KindTold, PartTold, UnderTold, teller_words, told_under}
 use Rattle.net_records.proofs.Clean.{sound_clean}
-use Rattle.net_records.specs.NetBytes.{net_size}
+use Rattle.net_records.specs.NetBytes.{net_of, net_size}
 use Rattle.net_records.specs.NetRecords.{front_header, net_fault, sound}
 use Rattle.net_records.specs.Refusals.{NetFault}
 use Rattle.net_records.specs.declared.header.NetHeader.{NetHeader}
@@ -31,12 +34,15 @@ file_told bytes held text last same clean whole told =
     subst (λ f. told_under bytes f last) (sym (sound_clean bytes clean)) written
 
 -- ---- a walk from the beginning of a file
-pub under_told : {B : Type 0} (kind : Kind B) (words : B → List ℕ) (bytes : List ℕ) (f : Filed B) (before said last : List ℕ) (line : Line) → f ≡ beginning kind bytes → TellsFrom (teller_words kind words) kind f (docket_asked kind f.unread.next f.unread.rest) before said line → Runs kind f.net f.world (docket_asked kind f.unread.next f.unread.rest) line → last ≡ said ++ last_line line → UnderTold kind words bytes before last
-under_told kind words bytes f before said last line begins told runs text = record {
+pub under_told : {B : Type 0} (kind : Kind B) (words : B → List ℕ) (bytes : List ℕ) (f : Filed B) (world : World B) (before said whole last : List ℕ) (line : Line) → f ≡ beginning kind bytes → TellsFrom (teller_words kind words) kind f (docket_asked kind f.unread.next f.unread.rest) before said (outcome world line) → Runs kind f.net f.world (docket_asked kind f.unread.next f.unread.rest) line → DueAdded kind words (net_of kind bytes) world said whole → last ≡ whole ++ last_line line → UnderTold kind words bytes before last
+under_told kind words bytes f world before said whole last line begins told runs due text = record {
   line = line;
   reports = subst (λ (x : Filed _). Runs kind x.net x.world (docket_asked kind x.unread.next x.unread.rest) line) begins runs;
   said = said;
-  told = subst (λ (x : Filed _). TellsFrom (teller_words kind words) kind x (docket_asked kind x.unread.next x.unread.rest) before said line) begins told;
+  told = subst (λ (x : Filed _). TellsFrom (teller_words kind words) kind x (docket_asked kind x.unread.next x.unread.rest) before said (outcome world line)) begins told;
+  world = world;
+  whole = whole;
+  due = due;
   text = text;
 }
 
@@ -65,7 +71,7 @@ module _ (bytes held : List ℕ) (h : NetHeader) (same : held ≡ bytes) (is : h
 module _ (bytes : List ℕ) (last : List ℕ) where
   under_ends : {B : Type 0} (kind : Kind B) (words : B → List ℕ) (before : List ℕ) (told : UnderTold kind words bytes before last) → Reports bytes told.line → Ending bytes last
   under_ends kind words before told reports =
-      record { line = told.line; reports = reports; front = told.said; text = told.text }
+      record { line = told.line; reports = reports; front = told.whole; text = told.text }
 
   kind_ends : (by : NetKind) (before : List ℕ) → ((line : Line) → ReportsOf by bytes line → Reports bytes line) → KindTold by bytes before last → Ending bytes last
   kind_ends Plain before reports told = under_ends plain_kind _ before told (reports told.line told.reports)

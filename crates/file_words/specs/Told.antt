@@ -1,5 +1,6 @@
 -- A file, written for people: its net, then the docket part record by record, each as it is read or
--- given to the docket, and at the end the line that the file comes to.
+-- given to the docket, what the item that is then due asks for, and at the end the line that the
+-- file comes to.
 --     before, last     the text so far, and the whole text
 use Rattle.std.specs.Prelude.{◌≡◌, ℕ, ◌≤◌, List, ◌++◌, length, Some, None, Option, MatchBool}
 use Rattle.std.specs.Prelude.{nat_le}
@@ -10,13 +11,14 @@ use Rattle.bounds.specs.Texts.{limit_text}
 use Rattle.docket_rules.specs.Worlds.{World, page_cells_at, listed_count, page_places_at}
 use Rattle.file_rules.specs.Asks.{Words}
 use Rattle.file_rules.specs.Reports.{Reports, ReportsUnder, net_kind_of}
-use Rattle.file_rules.specs.Telling.{TellsUnder}
+use Rattle.file_rules.specs.Telling.{TellsUnder, outcome}
 use Rattle.file_rules.specs.declared.line.Line.{Line}
+use Rattle.file_words.specs.Asked.{DueAdded}
 use Rattle.file_words.specs.Heads.{head_line, initial_line}
 use Rattle.file_words.specs.Items.{voucher_line}
 use Rattle.file_words.specs.Lines.{last_line}
 use Rattle.file_words.specs.Zones.{zone_text}
-use Rattle.net_records.specs.NetBytes.{net_size}
+use Rattle.net_records.specs.NetBytes.{net_of, net_size}
 use Rattle.net_records.specs.NetRecords.{front_header, net_fault}
 use Rattle.net_records.specs.Refusals.{NetFault}
 use Rattle.net_records.specs.declared.header.NetKind.{NetKind}
@@ -45,8 +47,12 @@ pub record UnderTold {B : Type 0} (kind : Kind B) (words : B →
   pub line : Line
   pub reports : ReportsUnder kind bytes line
   pub said : List ℕ
-  pub told : TellsUnder (teller_words kind words) kind bytes before said line
-  pub text : last ≡ said ++ last_line line
+  pub world : World B
+  pub told : TellsUnder (teller_words kind words) kind bytes before said (outcome world line)
+  -- in the docket as the file leaves it
+  pub whole : List ℕ
+  pub due : DueAdded kind words (net_of kind bytes) world said whole
+  pub text : last ≡ whole ++ last_line line
 
 abbrev pub KindTold : NetKind → List ℕ → List ℕ → List ℕ → Type 0
 KindTold Marked = UnderTold marked_kind (λ b. limit_text (marked_limit b.limit))

@@ -2,6 +2,7 @@
 //! the listed zones, the vouchers, and the line that the file comes to.
 #![tactic(auto)]
 
+mod asked;
 pub mod bound;
 pub mod head;
 pub mod item;

@@ -15,7 +15,7 @@ use zone_pages::Page;
 
 // A line for each token.
 #[derive(Clone, Copy)]
-struct Places<'a>(&'a [u8]);
+pub(crate) struct Places<'a>(pub &'a [u8]);
 
 impl<'a> fmt::Display for Places<'a> {
     ghost output = { λ p. Some (places_text p.0.now) };

@@ -1,5 +1,4 @@
 use Rattle.std.proofs.Common.{[], ◌∷◌, ◌+◌, ◌++◌, string_bytes, codes, ap, ◌∙◌, arith}
-use Rattle.zone_cells.specs.Cells.{in_page}
 use Rattle.std.proofs.lemmas.Result.{IfOk-weaker}
 use Rattle.file_words.specs.Tables.{below, cell_text, point_text}
 use Rattle.file_words.proofs.Texts.{grown_all, grown_more, two_more}
@@ -7,7 +6,7 @@ use Rattle.file_words.proofs.table.write_row.Goals as goal
 
 pub returns : goal.returns
 returns g c =
-    let cells = cell_text g.B.BoundWords.words (in_page g.B.Bound.kind c.args.page.now.cells.now) c.args.row in
+    let cells = cell_text g.B.BoundWords.words (g.T.Bounds.bounds c.args.table.now) c.args.row in
     let named = string_bytes c.write.new.self in
     let filled = string_bytes c.write_cell-2.new.text in
     let all = string_bytes c.writeln.new.self in

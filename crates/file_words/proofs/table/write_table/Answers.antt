@@ -1,5 +1,4 @@
 use Rattle.std.proofs.Common.{◌+◌, string_bytes, arith}
-use Rattle.zone_cells.specs.Cells.{in_page}
 use Rattle.std.proofs.lemmas.Result.{IfOk-weaker}
 use Rattle.file_words.specs.Tables.{row_text}
 use Rattle.file_words.proofs.Texts.{grown_all, grown_more}
@@ -7,7 +6,7 @@ use Rattle.file_words.proofs.table.write_table.Goals as goal
 
 pub returns : goal.returns
 returns g c =
-    let rows = row_text g.B.BoundWords.words (in_page g.B.Bound.kind c.args.page.now.cells.now) (c.args.tokens + 1) in
+    let rows = row_text g.B.BoundWords.words (g.T.Bounds.bounds c.args.table.now) (c.args.tokens + 1) in
     let start = string_bytes c.args.text.now in
     let middle = string_bytes c.loop-row.text in
     let all = string_bytes c.write_row-2.new.text in

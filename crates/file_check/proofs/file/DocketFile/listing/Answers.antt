@@ -14,7 +14,7 @@ returns-in_err-lists g c =
     let file = c.args.self.now in
     let asks = marking_asked kind c.args.header file.unread.next file.unread.rest in
     let said = g.W.Watcher.said c.args.watcher.now in
-    passes_out words kind InitialLists file file after after asks asks [] (proving_asked kind after.unread.next after.unread.rest) said said (g.W.Watcher.said c.told_tokens.new.watcher) c.in_err-lists.field-0.0 p.0 c.from_residual.result
+    passes_out words kind InitialLists file file after asks asks [] (proving_asked kind after.unread.next after.unread.rest) said said (g.W.Watcher.said c.told_tokens.new.watcher) c.in_err-lists.field-0.0 p.0 c.from_residual.result
     (going_self words kind file asks said) (c.in_err-lists.ensures.told (target_asked kind (initial_tokens_of c.args.header.initial file.unread.rest) c.args.header.zones (file.unread.next + c.args.header.initial) (drop (3 * c.args.header.initial) file.unread.rest))) p.1 p.2
 
 pub returns-in_err-told_target : goal.returns-in_err-told_target
@@ -24,7 +24,7 @@ returns-in_err-told_target g c =
     let read = c.in_ok-lists.ensures in
     let after = c.told_target.new.self in
     let p = err_from_is_err_and c.from_residual-in_err-told_target.result c.from_residual-in_err-told_target.ensures.1 in
-    passes_out words kind (Unit {0}) _ _ after after _ _ [] (proving_asked kind after.unread.next after.unread.rest) _ _ (g.W.Watcher.said c.told_target.new.watcher) c.in_err-told_target.field-0.0 p.0 c.from_residual-in_err-told_target.result
+    passes_out words kind (Unit {0}) _ _ after _ _ [] (proving_asked kind after.unread.next after.unread.rest) _ _ (g.W.Watcher.said c.told_target.new.watcher) c.in_err-told_target.field-0.0 p.0 c.from_residual-in_err-told_target.result
     (marking_on words kind _ _ _ _ c.args.header _ read.lists read.left read.told) (c.in_err-told_target.ensures.told _) p.1 p.2
 
 pub returns : goal.returns

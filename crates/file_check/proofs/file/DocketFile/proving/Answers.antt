@@ -13,7 +13,7 @@ returns-in_err-told_close-clause-told g c =
     let file = c.args.self.now in
     let asks = proving_asked kind file.unread.next file.unread.rest in
     let said = g.W.Watcher.said c.args.watcher.now in
-    passes_out words kind (Unit {0}) file file after after asks asks [] [] said said (g.W.Watcher.said c.told_close.new.watcher) c.in_err-told_close.field-0.0 p.0 c.from_residual.result
+    passes_out words kind (Unit {0}) file file after asks asks [] [] said said (g.W.Watcher.said c.told_close.new.watcher) c.in_err-told_close.field-0.0 p.0 c.from_residual.result
     (going_self words kind file asks said) (c.in_err-told_close.ensures.told (vouchers_asked kind (voucher_count kind file.unread.rest) file.unread.next file.unread.rest)) p.1 p.2
 
 pub returns-clause-told : goal.returns-clause-told

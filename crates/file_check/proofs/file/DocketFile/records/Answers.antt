@@ -3,6 +3,7 @@ use Rattle.std.proofs.lemmas.Result.{err_from_is_err_and}
 use Rattle.docket_records.specs.declared.docket_header.DocketHeader.{DocketHeader}
 use Rattle.docket_records.specs.DocketRecords.{docket_header_of}
 use Rattle.file_rules.specs.Asks.{docket_asked, marking_asked, proving_asked}
+use Rattle.file_rules.specs.Telling.{outcome}
 use Rattle.file_check.proofs.Tokens.{header_small}
 use Rattle.file_check.proofs.Walking.{comes_out, going_on, going_self, header_on, some_line}
 use Rattle.file_check.proofs.file.DocketFile.records.Goals as goal
@@ -57,5 +58,5 @@ returns g c =
     let read = c.in_ok-header.ensures in
     let header = header_on words kind _ _ _ _ _ read.header (read.moved refl) read.told in
     let last = g.W.Watcher.said c.proving.new.watcher in
-    let line = c.in-Some.line in
-    header.goes last line (c.in_ok-listing.ensures last line (c.in_ok-proving.ensures.told last line (refl, c.in-Some.ensures)))
+    let out = outcome c.proving.new.self.world c.in-Some.line in
+    header.goes last out (c.in_ok-listing.ensures last out (c.in_ok-proving.ensures.told last out (refl, refl, c.in-Some.ensures)))

@@ -23,7 +23,7 @@ returns-in_err-token-clause-told g c =
     let kind = g.B.Bound.kind in
     let after = c.told_token.new.self in
     let p = err_from_is_err_and c.from_residual.result c.from_residual.ensures.1 in
-    λ later. passes_out words kind InitialToken _ _ after after _ _ [] later _ _ (g.W.Watcher.said c.told_token.new.watcher) c.in_err-token.field-0.0 p.0 c.from_residual.result
+    λ later. passes_out words kind InitialToken _ _ after _ _ [] later _ _ (g.W.Watcher.said c.told_token.new.watcher) c.in_err-token.field-0.0 p.0 c.from_residual.result
     (tokens_here words kind c.args.count c.loop-at.at c.loop-at-test.true _ _ _ later _ _ (c.loop-at.invariant.going later))
     (c.in_err-token.ensures.told _) p.1 p.2
 

@@ -19,7 +19,7 @@ returns-in_err-told_voucher-clause-told g c =
     let some : 0 < length c.loop-self.self.unread.rest = search rules in
     let p = err_from_is_err_and c.from_residual.result c.from_residual.ensures.1 in
     let after = c.told_voucher.new.self in
-    passes_out words kind (Unit {0}) _ _ after after _ _ [] [] _ _ (g.W.Watcher.said c.told_voucher.new.watcher) c.in_err-told_voucher.field-0.0 p.0 c.from_residual.result
+    passes_out words kind (Unit {0}) _ _ after _ _ [] [] _ _ (g.W.Watcher.said c.told_voucher.new.watcher) c.in_err-told_voucher.field-0.0 p.0 c.from_residual.result
     (vouchers_here words kind _ _ _ _ _ c.loop-self.invariant.going some)
     (c.in_err-told_voucher.ensures.told _) p.1 p.2
 

@@ -18,7 +18,7 @@ returns-in_err-told_zone g c =
     let kind = g.B.Bound.kind in
     let p = err_from_is_err_and c.from_residual.result c.from_residual.ensures.1 in
     let after = c.told_zone.new.self in
-    passes_out words kind (Unit {0}) _ _ after after _ _ [] (proving_asked kind after.unread.next after.unread.rest) _ _ (g.W.Watcher.said c.told_zone.new.watcher) c.in_err-told_zone.field-0.0 p.0 c.from_residual.result
+    passes_out words kind (Unit {0}) _ _ after _ _ [] (proving_asked kind after.unread.next after.unread.rest) _ _ (g.W.Watcher.said c.told_zone.new.watcher) c.in_err-told_zone.field-0.0 p.0 c.from_residual.result
     (zones_here words kind c.args.count c.loop.counter c.loop-test.true _ _ _ _ _ c.loop.invariant.going)
     (c.in_err-told_zone.ensures.told _) p.1 p.2
 

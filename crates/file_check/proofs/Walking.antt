@@ -117,13 +117,13 @@ module _ {B : Type 0} (words : Words B) (kind : Kind B) where
         subst (λ (j : ℕ). Going start asks first f (vouchers_asked kind j f.unread.next f.unread.rest) said) none going
 
   -- ---- the target, which is told once it is taken
-  taken_where : (short : Bool) (f v : Filed B) (at : ℕ) (refusal : EntryRefusal) (call : Answer → Call B) (said heard : List ℕ) (later : List (Ask B)) → heard ≡ said ++ call_words words f.world v.world (call (Ok tt)) → AskMade kind f.net f.world (cond short (Refuse at refusal) (Make at call)) v.world (Ok tt) → v.net ≡ f.net → (last : List ℕ) (line : Line) → TellsFrom words kind v later heard last line → TellsFrom words kind f (cond short (Refuse at refusal) (Make at call) ∷ later) said last line
-  taken_where true f v at refusal call said heard later told made same last line h = absurd made
-  taken_where false f v at refusal call said heard later told made same last line h =
-      let under = subst (λ (n : Net B). TellsIn words kind n v.world later heard last line) same h in
-      (Ok tt, v.world, made, subst (λ t. TellsIn words kind f.net v.world later t last line) told under)
+  taken_where : (short : Bool) (f v : Filed B) (at : ℕ) (refusal : EntryRefusal) (call : Answer → Call B) (said heard : List ℕ) (later : List (Ask B)) → heard ≡ said ++ call_words words f.world v.world (call (Ok tt)) → AskMade kind f.net f.world (cond short (Refuse at refusal) (Make at call)) v.world (Ok tt) → v.net ≡ f.net → (last : List ℕ) (out : Outcome B) → TellsFrom words kind v later heard last out → TellsFrom words kind f (cond short (Refuse at refusal) (Make at call) ∷ later) said last out
+  taken_where true f v at refusal call said heard later told made same last out h = absurd made
+  taken_where false f v at refusal call said heard later told made same last out h =
+      let under = subst (λ (n : Net B). TellsIn words kind n v.world later heard last out) same h in
+      (Ok tt, v.world, made, subst (λ t. TellsIn words kind f.net v.world later t last out) told under)
 
-  pub target_taken : (f v : Filed B) (lists : InitialLists) (said heard : List ℕ) → heard ≡ said ++ words.zone v.world → (later : List (Ask B)) → Called kind (opening_ask kind lists f.unread) f (Ok tt) v → (last : List ℕ) (line : Line) → TellsFrom words kind v later heard last line → TellsFrom words kind f (opening_ask kind lists f.unread ∷ later) said last line
+  pub target_taken : (f v : Filed B) (lists : InitialLists) (said heard : List ℕ) → heard ≡ said ++ words.zone v.world → (later : List (Ask B)) → Called kind (opening_ask kind lists f.unread) f (Ok tt) v → (last : List ℕ) (out : Outcome B) → TellsFrom words kind v later heard last out → TellsFrom words kind f (opening_ask kind lists f.unread ∷ later) said last out
   target_taken f v lists said heard told later made =
       taken_where (nat_lt (length f.unread.rest) 192) f v f.unread.next WrongLength (Open (as_lists lists.places.items lists.ages.items) (take 192 f.unread.rest) (scratch_page kind)) said heard later told made.made made.net
 

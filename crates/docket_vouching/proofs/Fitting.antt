@@ -11,7 +11,7 @@ use Rattle.zone_walks.proofs.Lessers.{lesser_left, lesser_right}
 use Rattle.zone_closed_forms.specs.ClosedForms.{ClockRows, by_clock, kept_closed}
 use Rattle.zone_pages.specs.Comparison.{exceeds, exceeds_in_row, no_partner, partner_taken, partner_unsound, partners_unsound}
 use Rattle.zone_pages.proofs.Comparison.{none_at, none_below}
-use Rattle.docket_vouching.specs.Fits.{ClockRowFits, KeptAt, PointsAt, TokenRowFits, kept_fits, way_fits}
+use Rattle.docket_vouching.specs.Fits.{AddedRowFits, ClockRowFits, KeptAt, KeptRowFits, PointsAt, TokenRowFits, own_fits, way_fits}
 
 -- ---- no two points have one partner
 module _ (page_places asked_places pairing : List ℕ) (sound : partners_unsound page_places asked_places pairing ≡ false) where
@@ -91,7 +91,7 @@ module _ {B : Type 0} (kind : Kind B) (page own : Matrix B) (rows : ClockRows B)
     up_entry : kind.at_most (asked (partner pairing j) 0) (page j 0) ≡ true
     up_entry =
         ap (λ b. kind.at_most b (page j 0)) (cond-false (eqb of 0) _ _ no_clock ∙ cond-false (eqb of 0) _ _ no_clock ∙ ap rows.up (sym here))
-        ∙ fits.up
+        ∙ fits.0
 
     module _ (i : ℕ) (q : i < length pairing + 1) (ne : j ≡ i → ⊥) (other : i ≡ 0 → ⊥) where
       abbrev to : ℕ
@@ -112,20 +112,20 @@ module _ {B : Type 0} (kind : Kind B) (page own : Matrix B) (rows : ClockRows B)
       at_to : get_or at i 0 ≡ get_or kept to 0
       at_to = own_is i (omega (arith, q, few)) ∙ ap (λ m. get_or kept m 0) there
 
-      by_page : kept_fits kind page own at j i ≡ true → (both ≡ true) × (kind.at_most (own (get_or kept of 0) (get_or kept to 0)) (page j i) ≡ true)
+      by_page : (not (eqb (get_or at j 0) 0) && own_fits kind page own at j i) ≡ true → (both ≡ true) × (kind.at_most (own (get_or kept of 0) (get_or kept to 0)) (page j i) ≡ true)
       by_page h =
-          let one = and_parts (not (eqb (get_or at j 0) 0) && not (eqb (get_or at i 0) 0)) (kind.at_most (own (get_or at j 0) (get_or at i 0)) (page j i)) h in
-          let two = and_parts (not (eqb (get_or at j 0) 0)) (not (eqb (get_or at i 0) 0)) one.0 in
-          let first : ltb of (length kept) ≡ true = lt-ltb of (length kept) (inside kept of (λ e. both_ways (eqb (get_or at j 0) 0) (not-true _ two.0) (eq-eqb _ 0 (at_of ∙ e)))) in
-          let second : ltb to (length kept) ≡ true = lt-ltb to (length kept) (inside kept to (λ e. both_ways (eqb (get_or at i 0) 0) (not-true _ two.1) (eq-eqb _ 0 (at_to ∙ e)))) in
-          (and_from _ _ first second, ap (λ m. kind.at_most (own m (get_or kept to 0)) (page j i)) (sym at_of) ∙ ap (λ m. kind.at_most (own (get_or at j 0) m) (page j i)) (sym at_to) ∙ one.1)
+          let one = and_parts (not (eqb (get_or at j 0) 0)) (own_fits kind page own at j i) h in
+          let two = and_parts (not (eqb (get_or at i 0) 0)) (kind.at_most (own (get_or at j 0) (get_or at i 0)) (page j i)) one.1 in
+          let first : ltb of (length kept) ≡ true = lt-ltb of (length kept) (inside kept of (λ e. both_ways (eqb (get_or at j 0) 0) (not-true _ one.0) (eq-eqb _ 0 (at_of ∙ e)))) in
+          let second : ltb to (length kept) ≡ true = lt-ltb to (length kept) (inside kept to (λ e. both_ways (eqb (get_or at i 0) 0) (not-true _ two.0) (eq-eqb _ 0 (at_to ∙ e)))) in
+          (and_from _ _ first second, ap (λ m. kind.at_most (own m (get_or kept to 0)) (page j i)) (sym at_of) ∙ ap (λ m. kind.at_most (own (get_or at j 0) m) (page j i)) (sym at_to) ∙ two.1)
 
       fitting : (kind.at_most (by_clock kind rows of to) (page j i) ≡ true) ⊎ ((both ≡ true) × (kind.at_most (own (get_or kept of 0) (get_or kept to 0)) (page j i) ≡ true))
       fitting =
           ⊎_elim
           (λ h. ⊎_elim (λ e. absurd (ne (sym (eqb-true i j e)))) (λ e. inl (by_way e)) (or_cases (eqb i j) (way_fits kind page rows points j i) h))
           (λ e. inr (by_page e))
-          (or_cases (eqb i j || way_fits kind page rows points j i) (kept_fits kind page own at j i) (fits.entries i (omega (arith, other)) (omega (arith, q, few))))
+          (or_cases (eqb i j || way_fits kind page rows points j i) (not (eqb (get_or at j 0) 0) && own_fits kind page own at j i) (fits.1 i (omega (arith, other)) (omega (arith, q, few))))
 
       token_entry : kind.at_most (asked of to) (page j i) ≡ true
       token_entry =
@@ -146,3 +146,20 @@ first_row f h (suc k) l = absurd (omega (arith, l))
 
 pub next_row : (f : ℕ → Bool) (j : ℕ) → ((k : ℕ) → k < j → f k ≡ false) → f j ≡ false → (k : ℕ) → k < j + 1 → f k ≡ false
 next_row f j below h k l = ⊎_elim (λ e. subst (λ n. f n ≡ false) (sym (eqb-true k j e)) h) (λ e. below k (omega (arith, l, eqb-false k j e))) (cases_Bool (eqb k j))
+
+-- ---- a row of one shape
+added_entry : (x y : Bool) → x ≡ true → (x || y) ≡ true
+added_entry true y h = refl
+added_entry false y h = absurd (both_ways false refl h)
+
+kept_entry : (e w n o : Bool) → n ≡ true → (w || o) ≡ true → ((e || w) || (n && o)) ≡ true
+kept_entry true w n o is h = refl
+kept_entry false true n o is h = refl
+kept_entry false false n o is h = ap (λ t. t && o) is ∙ h
+
+module _ {B : Type 0} (kind : Kind B) (page own : Matrix B) (rows : ClockRows B) (points kept : List ℕ) (j : ℕ) where
+  pub from_added : AddedRowFits kind page rows points j → TokenRowFits kind page own rows points kept j
+  from_added h = (h.0, λ i p q. added_entry (eqb i j || way_fits kind page rows points j i) (not (eqb (get_or kept j 0) 0) && own_fits kind page own kept j i) (h.1 i p q))
+
+  pub from_kept : (get_or kept j 0 ≡ 0 → ⊥) → KeptRowFits kind page own rows points kept j → TokenRowFits kind page own rows points kept j
+  from_kept some h = (h.0, λ i p q. kept_entry (eqb i j) (way_fits kind page rows points j i) (not (eqb (get_or kept j 0) 0)) (own_fits kind page own kept j i) (ap not (ne_eqb (get_or kept j 0) 0 some)) (h.1 i p q))

@@ -21,27 +21,44 @@ ClockRowFits kind page rows points =
     (i : ℕ) → 1 ≤ i → i < page_row →
     IsTrue (kind.at_most (rows.low (slice_index points i)) (page 0 i))
 
--- between two kept points by the bound of the item's page
-abbrev pub kept_fits : {B : Type 0} →
-    Kind B → (page own : Matrix B) → (kept : List ℕ) → ℕ → ℕ → Bool
-kept_fits kind page own kept j i =
-    let at : ℕ = slice_index kept j in
-    let to : ℕ = slice_index kept i in
-    not (at == 0) && not (to == 0) && kind.at_most (own at to) (page j i)
-
--- or by the way by the clock
+-- by the way by the clock
 abbrev pub way_fits : {B : Type 0} →
     Kind B → (page : Matrix B) → ClockRows B → (points : List ℕ) → ℕ → ℕ → Bool
 way_fits kind page rows points j i =
     kind.at_most (by_clock kind rows (slice_index points j) (slice_index points i)) (page j i)
 
+-- to a kept point by the bound of the item's page
+abbrev pub own_fits : {B : Type 0} →
+    Kind B → (page own : Matrix B) → (kept : List ℕ) → ℕ → ℕ → Bool
+own_fits kind page own kept j i =
+    not (slice_index kept i == 0)
+    && kind.at_most (own (slice_index kept j) (slice_index kept i)) (page j i)
+
 abbrev pub entry_fits : {B : Type 0} →
     Kind B → (page own : Matrix B) → ClockRows B → (points kept : List ℕ) → ℕ → ℕ → Bool
 entry_fits kind page own rows points kept j i =
-    i == j || way_fits kind page rows points j i || kept_fits kind page own kept j i
+    i == j || way_fits kind page rows points j i
+    || (not (slice_index kept j == 0) && own_fits kind page own kept j i)
 
-pub record TokenRowFits {B : Type 0} (kind : Kind B) (page own : Matrix B) (rows : ClockRows B)
-    (points kept : List ℕ) (j : ℕ) : Type 0 where
-  pub up : IsTrue (kind.at_most (rows.up (slice_index points j)) (page j 0))
-  pub entries : (i : ℕ) → 1 ≤ i → i < page_row →
-      IsTrue (entry_fits kind page own rows points kept j i)
+-- a row of bounds from the point j, the first of them to the clock
+abbrev pub RowFits : {B : Type 0} →
+    Kind B → (page : Matrix B) → ClockRows B → (points : List ℕ) → ℕ → (ℕ → Bool) → Type 0
+RowFits kind page rows points j fits =
+    IsTrue (kind.at_most (rows.up (slice_index points j)) (page j 0))
+    × ((i : ℕ) → 1 ≤ i → i < page_row → IsTrue (fits i))
+
+abbrev pub AddedRowFits : {B : Type 0} →
+    Kind B → (page : Matrix B) → ClockRows B → (points : List ℕ) → ℕ → Type 0
+AddedRowFits kind page rows points j =
+    RowFits kind page rows points j (λ i. i == j || way_fits kind page rows points j i)
+
+abbrev pub KeptRowFits : {B : Type 0} →
+    Kind B → (page own : Matrix B) → ClockRows B → (points kept : List ℕ) → ℕ → Type 0
+KeptRowFits kind page own rows points kept j =
+    RowFits kind page rows points j
+    (λ i. way_fits kind page rows points j i || own_fits kind page own kept j i)
+
+abbrev pub TokenRowFits : {B : Type 0} →
+    Kind B → (page own : Matrix B) → ClockRows B → (points kept : List ℕ) → ℕ → Type 0
+TokenRowFits kind page own rows points kept j =
+    RowFits kind page rows points j (entry_fits kind page own rows points kept j)

@@ -2,7 +2,8 @@
 //! entry by the way by the clock or by the item's page, with no branch from entry to entry.
 //! A row that fits is settled; of one that does not nothing is said here.
 ghost use Rattle.docket_vouching.specs.Asked.{rows_within};
-ghost use Rattle.docket_vouching.specs.Fits.{ClockRowFits, KeptAt, PointsAt, TokenRowFits};
+ghost use Rattle.docket_vouching.specs.Fits.{AddedRowFits, ClockRowFits, KeptAt, KeptRowFits};
+ghost use Rattle.docket_vouching.specs.Fits.{PointsAt, TokenRowFits};
 ghost use Rattle.nets.specs.Nets.{Every};
 ghost use Rattle.std.specs.Prelude.{◌≡◌, ◌≤◌, ◌<◌, ◌↔◌, IsTrue, length};
 ghost use Rattle.zone_cells.specs.Cells.{in_page};
@@ -63,7 +64,55 @@ pub(crate) fn clock_row_fits<B: Bound>(page: &[B], rows: &[B], points: &[u8; PAG
     fits
 }
 
-/// A token's row.
+/// The row of a token that is added: the way by the clock alone.
+fn added_row_fits<B: Bound>(page: &[B], rows: &[B], points: &[u8; PAGE_POINTS], j: usize) -> bool
+    requires page { length page.now ≡ 81 }
+    requires rows { 26 ≤ length rows.now }
+    requires points { Every (λ d. d < 13) points.now }
+    requires row { j < 9 }
+    ensures { IsTrue result → AddedRowFits B.Bound.kind (in_page B.Bound.kind page.now)
+        (rows_within B.Bound.kind rows.now) points.now j }
+{
+    let up = rows[usize::from(points[j])];
+    let mut fits = up.at_most(page[PAGE_POINTS * j]);
+    for i in 1..PAGE_POINTS {
+        let way = up.sum(rows[MOST_POINTS + usize::from(points[i])]);
+        fits &= (i == j) | way.at_most(page[PAGE_POINTS * j + i]);
+    }
+    fits
+}
+
+/// The row of a token that is kept.
+fn kept_row_fits<B: Bound>(
+    page: &[B],
+    own: &[B],
+    rows: &[B],
+    points: &[u8; PAGE_POINTS],
+    kept: &[u8; PAGE_POINTS],
+    j: usize,
+) -> bool
+    requires page { length page.now ≡ 81 }
+    requires own { length own.now ≡ 81 }
+    requires rows { 26 ≤ length rows.now }
+    requires points { Every (λ d. d < 13) points.now }
+    requires kept { Every (λ d. d < 9) kept.now }
+    requires row { j < 9 }
+    ensures { IsTrue result → KeptRowFits B.Bound.kind (in_page B.Bound.kind page.now)
+        (in_page B.Bound.kind own.now) (rows_within B.Bound.kind rows.now) points.now kept.now j }
+{
+    let up = rows[usize::from(points[j])];
+    let at = usize::from(kept[j]);
+    let mut fits = up.at_most(page[PAGE_POINTS * j]);
+    for i in 1..PAGE_POINTS {
+        let bound = page[PAGE_POINTS * j + i];
+        let way = up.sum(rows[MOST_POINTS + usize::from(points[i])]);
+        let to = usize::from(kept[i]);
+        fits &= way.at_most(bound) | ((to != 0) & own[PAGE_POINTS * at + to].at_most(bound));
+    }
+    fits
+}
+
+/// A token's row. Two loops, each of one shape.
 pub(crate) fn token_row_fits<B: Bound>(
     page: &[B],
     own: &[B],
@@ -81,15 +130,9 @@ pub(crate) fn token_row_fits<B: Bound>(
     ensures { IsTrue result → TokenRowFits B.Bound.kind (in_page B.Bound.kind page.now)
         (in_page B.Bound.kind own.now) (rows_within B.Bound.kind rows.now) points.now kept.now j }
 {
-    let up = rows[usize::from(points[j])];
-    let at = usize::from(kept[j]);
-    let mut fits = up.at_most(page[PAGE_POINTS * j]);
-    for i in 1..PAGE_POINTS {
-        let bound = page[PAGE_POINTS * j + i];
-        let way = up.sum(rows[MOST_POINTS + usize::from(points[i])]);
-        let to = usize::from(kept[i]);
-        let kept_fits = (at != 0) & (to != 0) & own[PAGE_POINTS * at + to].at_most(bound);
-        fits &= (i == j) | way.at_most(bound) | kept_fits;
+    if kept[j] == 0 {
+        added_row_fits(page, rows, points, j)
+    } else {
+        kept_row_fits(page, own, rows, points, kept, j)
     }
-    fits
 }

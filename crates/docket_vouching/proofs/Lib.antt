@@ -2,3 +2,4 @@ pub mod Arcs
 pub mod Zones
 pub mod Cells
 pub mod Means
+pub mod Fitting

@@ -2,3 +2,4 @@ pub mod Rows
 pub mod Own
 pub mod Asked
 pub mod Means
+pub mod Fits

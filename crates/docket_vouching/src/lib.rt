@@ -3,6 +3,7 @@
 #![tactic(auto)]
 
 pub mod asked;
+mod fits;
 mod own;
 mod points;
 mod rows;

@@ -1,6 +1,6 @@
 //! Whether a page's zone vouches for the zone that an item asks for, and what stands against it.
 ghost use Rattle.docket_vouching.specs.Asked.{shown, zone_on_page};
-ghost use Rattle.std.specs.Prelude.{◌≡◌, length};
+ghost use Rattle.std.specs.Prelude.{◌≡◌, false, IsTrue, length};
 ghost use Rattle.zone_cells.specs.Cells.{in_page};
 ghost use Rattle.zone_pages.specs.Comparison.{bound_exceeds, exceeds, exceeds_in_row};
 ghost use Rattle.zone_pages.specs.Comparison.{partner_taken, partner_unsound, partners_unsound};
@@ -9,11 +9,13 @@ ghost use Rattle.zone_pages.specs.Objections.{Means, objection_of};
 ghost use Rattle.zones.specs.Vouching.{partner};
 
 use crate::asked::AskedZone;
-use crate::rows::PAGE_POINTS;
+use crate::fits::{are_below, clock_row_fits, kept_of, points_of, token_row_fits};
+use crate::rows::{MOST_POINTS, PAGE_POINTS};
 use bounds::Bound;
 use zone_drafts::bytes::byte;
 use zone_drafts::draft::cell;
 use zone_matchings::numbered;
+use zone_pages::book::PAGE_CELLS;
 use zone_pages::{Objection, Page};
 
 /// That a page's zone vouches for the zone that an item asks for.
@@ -96,11 +98,46 @@ impl<B: Bound> Vouching<'_, B> {
         (0..self.pairing.len() + 1).any(|i| self.exceeds(j, i))
     }
 
+    // Whether each row fits as a whole. Nothing is said where one does not, or where memory is not
+    // as long as a docket's.
+    fn all_fit(&self) -> bool
+        requires { partners_unsound self.now.page.places.now
+            (shown B.Bound.kind self.now.asked).places self.now.pairing.now ≡ false }
+        ensures { IsTrue result →
+            bound_exceeds B.Bound.kind (in_page B.Bound.kind self.now.page.cells.now)
+            (shown B.Bound.kind self.now.asked).bound self.now.pairing.now ≡ false }
+    {
+        let (page, own, rows) = (self.page.cells, self.asked.page, self.asked.rows);
+        if page.len() != PAGE_CELLS || own.len() != PAGE_CELLS || rows.len() < 2 * MOST_POINTS {
+            return false;
+        }
+        let points = points_of(self.pairing);
+        let kept = kept_of(&self.asked.parts.kept, &points);
+        if self.pairing.len() >= PAGE_POINTS
+            || !are_below(&points, MOST_POINTS as u8)
+            || !are_below(&kept, PAGE_POINTS as u8)
+        {
+            return false;
+        }
+        if !clock_row_fits(page, rows, &points) {
+            return false;
+        }
+        for j in 1..self.pairing.len() + 1 {
+            if !token_row_fits(page, own, rows, &points, &kept, j) {
+                return false;
+            }
+        }
+        true
+    }
+
+    // An entry is looked for only where a row does not fit.
     fn some_exceeds(&self) -> bool
+        requires { partners_unsound self.now.page.places.now
+            (shown B.Bound.kind self.now.asked).places self.now.pairing.now ≡ false }
         ensures { result ≡ bound_exceeds B.Bound.kind (in_page B.Bound.kind self.now.page.cells.now)
             (shown B.Bound.kind self.now.asked).bound self.now.pairing.now }
     {
-        (0..self.pairing.len() + 1).any(|j| self.row_exceeds(j))
+        !self.all_fit() && (0..self.pairing.len() + 1).any(|j| self.row_exceeds(j))
     }
 
     /// What stands against it, the lowest number first.

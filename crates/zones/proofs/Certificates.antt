@@ -66,3 +66,15 @@ certificates_are_sound kind net starts target listed c covering =
 -- a zone without a marking of whole ages is without the same marking counted on each grid
 pub apart_at : {B : Type 0} (kind : Kind B) (initial : Marking) (z : Zone B) → (Satisfies kind 1 z initial → ⊥) → Apart kind (starts_at initial) z
 apart_at kind initial z apart k m grid begins s = apart (grids_satisfy kind k grid z initial (subst (Satisfies kind k z) begins s))
+
+apart_all : {B : Type 0} (kind : Kind B) (initial : Marking) (listed : List (Zone B)) → Every (λ z. Satisfies kind 1 z initial → ⊥) listed → Every (Apart kind (starts_at initial)) listed
+apart_all kind initial [] h = tt
+apart_all kind initial (z ∷ zs) h = (apart_at kind initial z h.0, apart_all kind initial zs h.1)
+
+pub sound_by_units : {B : Type 0} (kind : Kind B) (net : Net B) (initial : Marking) (target : Zone B) (listed : List (Zone B)) → Vouched kind listed target → Every (StepsVouched kind net listed) listed → Every (λ z. Satisfies kind 1 z initial → ⊥) listed → Safe kind net (starts_at initial) target
+sound_by_units kind net initial target listed covered steps apart =
+    certificates_are_sound kind net (starts_at initial) target listed (record {
+      covered = covered;
+      steps = steps;
+      apart = apart_all kind initial listed apart;
+    })

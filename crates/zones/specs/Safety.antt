@@ -90,6 +90,13 @@ CertificatesSound kind =
     Certificate kind net (starts_at initial) target listed →
     Safe kind net (starts_at initial) target
 
+-- and so it does where the listed zones are known to be without that marking on grid 1 alone
+abbrev pub CertificatesSoundByUnits : {B : Type 0} → Kind B → Type 0
+CertificatesSoundByUnits kind =
+    (net : Net _) (initial : Marking) (target : Zone _) (listed : List (Zone _)) →
+    Vouched kind listed target → Every (StepsVouched kind net listed) listed →
+    Every (λ z. Satisfies kind 1 z initial → ⊥) listed → Safe kind net (starts_at initial) target
+
 pub record ZoneLaws {B : Type 0} (kind : Kind B) : Type 0 where
   pub to_form : (k : ℕ) (z y : Zone B) (m : Marking) → 1 ≤ k → NormalOf kind z y →
       Satisfies kind k z m → Satisfies kind k y m

@@ -1,5 +1,5 @@
 // What zones and certificates mean for markings and runs.
-ghost use Rattle.zones.specs.Safety.{CertificatesSound, ZoneLaws};
+ghost use Rattle.zones.specs.Safety.{CertificatesSound, CertificatesSoundByUnits, ZoneLaws};
 
 use bounds::Bound;
 
@@ -9,7 +9,9 @@ pub fn zones_keep_laws<B: Bound>()
     ensures { ZoneLaws B.Bound.kind }
 {}
 
-/// Does nothing: its contract is that a certificate shows its target safe, for every kind and net.
+/// Does nothing: its contract is that a certificate shows its target safe, for every kind and net,
+/// and that the marking has to be kept from the listed zones on grid 1 alone.
 pub fn certificates_are_sound<B: Bound>()
-    ensures { CertificatesSound B.Bound.kind }
+    ensures sound { CertificatesSound B.Bound.kind }
+    ensures by_units { CertificatesSoundByUnits B.Bound.kind }
 {}

@@ -1,3 +1,4 @@
 pub mod Windows
 pub mod Said
 pub mod Sizes
+pub mod Clean

@@ -1,12 +1,12 @@
 -- The sizes of the zone that a record says: of its bounds, and of its list of places.
-use Rattle.std.proofs.Common.{◌≡◌, ℕ, ◌+◌, ◌<◌, ◌≤◌, min, Bool, true, false, cond, ◌&&◌, eqb, ltb, leb, List, length, Some, None, Option, IfSome, ℤ, pos, ◌-ℤ◌, nat_abs, sym, ap, ◌∙◌, subst, ⊎_elim, arith}
+use Rattle.std.proofs.Common.{◌≡◌, ℕ, ◌+◌, ◌<◌, ◌≤◌, min, Bool, true, false, cond, ◌&&◌, eqb, ltb, leb, List, length, get_or, Some, None, Option, IfSome, ℤ, pos, ◌-ℤ◌, nat_abs, sym, refl, ap, ◌∙◌, subst, ⊎_elim, arith}
 use borrow.Author.Differences.{ints}
-use Rattle.std.proofs.lemmas.List.FromFn.{length-map-range_with_len}
-use Rattle.std.proofs.lemmas.Bool.{cond_both, ltb-true, ltb-false, and_parts, cases_eq, le-leb, cond-true}
+use Rattle.std.proofs.lemmas.List.FromFn.{length-map-range_with_len, get_or-map-range_with_len}
+use Rattle.std.proofs.lemmas.Bool.{cond_both, ltb-true, ltb-false, and_parts, cases_eq, eq-eqb, le-leb, cond-true}
 use Rattle.bounds.specs.Kinds.{Kind, Named, bound_of}
 use Rattle.net_records.proofs.Fields.{field_below}
 use Rattle.zones.specs.Zones.{SizedZone}
-use Rattle.docket_records.specs.ZoneRecords.{tokens_of, place_at, signed, limit_of, limit, number_at, mark_at, entry_at, entry_start, entry_bound, zone_of}
+use Rattle.docket_records.specs.ZoneRecords.{tokens_of, place_at, signed, limit_of, limit, number_at, mark_at, entry_at, entry_start, entry_bound, bound_at, zone_of}
 
 -- no limit, or a number within the limits of a kind
 abbrev pub Small : Option ℤ → Type 0
@@ -42,11 +42,20 @@ module _ {B : Type 0} (kind : Kind B) where
   limit_made mark n o e small =
       cond-true (leb (nat_abs n) 262143) (kind.number n (mark && kind.marks)) kind.no_limit (le-leb (nat_abs n) 262143 (subst Small e small)) ∙ ap (limit kind mark) (sym e)
 
-  pub zone_small : (bytes : List ℕ) → SizedZone kind 262143 (zone_of kind bytes)
-  zone_small bytes j i _ _ =
+  pub bound_small : (bytes : List ℕ) (j i : ℕ) → kind.size (bound_at kind bytes j i) ≤ 262143
+  bound_small bytes j i =
       cond_both (eqb j i) kind.zero (cond (leb j 8 && leb i 8) (entry_bound kind (entry_at bytes j i)) kind.no_limit) (λ b. kind.size b ≤ 262143)
       (λ _. omega (arith, kind.zero_size))
       (λ _. cond_both (leb j 8 && leb i 8) (entry_bound kind (entry_at bytes j i)) kind.no_limit (λ b. kind.size b ≤ 262143) (λ _. entry_small (mark_at bytes j i) (number_at bytes j i) (number_small bytes j i)) (λ _. omega (arith, kind.no_limit_size)))
 
+  pub zone_small : (bytes : List ℕ) → SizedZone kind 262143 (zone_of kind bytes)
+  zone_small bytes j i _ _ = bound_small bytes j i
+
+  pub bound_still : (bytes : List ℕ) (j : ℕ) → bound_at kind bytes j j ≡ kind.zero
+  bound_still bytes j = cond-true (eqb j j) kind.zero _ (eq-eqb j j refl)
+
   pub places_length : (bytes : List ℕ) → tokens_of bytes ≤ 8 → length (zone_of kind bytes).places ≡ tokens_of bytes
   places_length bytes few = length-map-range_with_len (place_at bytes) 1 (min (tokens_of bytes) 8) ∙ omega arith
+
+  pub place_listed : (bytes : List ℕ) (t : ℕ) → tokens_of bytes ≤ 8 → t < tokens_of bytes → get_or (zone_of kind bytes).places t 0 ≡ place_at bytes (t + 1)
+  place_listed bytes t few here = get_or-map-range_with_len (place_at bytes) 1 (min (tokens_of bytes) 8) t (t + 1) 0 (omega arith) (omega arith)

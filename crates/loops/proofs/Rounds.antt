@@ -21,6 +21,19 @@ pub split_lines : (b : ℕ) (text : List ℕ) → lines (b ∷ text) ≡ first_l
 split_lines b [] = step_line b [] (eqb b 10) refl
 split_lines b (c ∷ text) = step_line b (c ∷ text) (eqb b 10) (ap (grown b) (split_lines c text))
 
+cut_line : (t : Bool) (text rest : List ℕ) → length rest ≤ length text → length (cond t text rest) ≤ length text
+cut_line true text rest h = omega arith
+cut_line false text rest h = h
+
+after_within : (text : List ℕ) → length (after_line text) ≤ length text
+after_within [] = omega arith
+after_within (b ∷ text) = omega (arith, cut_line (eqb b 10) text (after_line text) (after_within text))
+
+-- what is left after a line is shorter
+pub after_shorter : (text : List ℕ) → 0 < length text → length (after_line text) < length text
+after_shorter [] h = absurd (omega arith)
+after_shorter (b ∷ text) h = omega (arith, cut_line (eqb b 10) text (after_line text) (after_within text))
+
 pub next_line : (text : List ℕ) → 0 < length text → lines text ≡ first_line text ∷ lines (after_line text)
 next_line [] h = absurd (omega arith)
 next_line (b ∷ text) h = split_lines b text

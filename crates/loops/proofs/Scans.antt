@@ -1,14 +1,15 @@
 -- Steps of the loops that look for a line feed and read digits.
-use Rattle.std.proofs.Common.{◌≡◌, ℕ, suc, ◌+◌, ◌-◌, ◌*◌, ◌<◌, ◌≤◌, min, Bool, true, false, not, cond, eqb, ltb, ◌==◌, List, [], ◌∷◌, length, get_or, take, drop, Some, None, Ok, codes, Option, sym, refl, ap, ◌∙◌, ⊎_elim, add-one, one-add, arith}
+use Rattle.std.proofs.Common.{◌≡◌, ℕ, zero, suc, ◌+◌, ◌-◌, ◌*◌, ◌<◌, ◌≤◌, min, Bool, true, false, not, cond, eqb, ltb, leb, ◌==◌, ◌⊎◌, List, [], ◌∷◌, length, get_or, take, drop, ℤ, pos, negsuc, neg_ℤ, nat_abs, Some, None, Ok, codes, Option, sym, refl, ap, ◌∙◌, inl, inr, ⊎_elim, add-one, one-add, arith}
+use borrow.Author.Differences.{ints}
 use Rattle.std.proofs.lemmas.List.{drop_more, drop_all, take_all}
 use Rattle.std.proofs.lemmas.Slice.Eq.{bytes_eq-Decides}
 use Rattle.std.specs.Str.{bytes_eq}
-use Rattle.std.proofs.lemmas.Bool.{ne_eqb, ltb-false, cond-false, cases_Bool}
+use Rattle.std.proofs.lemmas.Bool.{ne_eqb, and_left, and_right, lt-leb, leb-true, leb-false, ltb-false, cond-false, cases_Bool}
 use Rattle.std.specs.List.{position_or_len}
 use Rattle.std.specs.Option.{option_map}
-use Rattle.bounds.specs.Kinds.{Kind}
-use Rattle.loops.specs.Readings.{number_bound, marked_line_bound, line_bound}
-use Rattle.loops.specs.Lines.{first_line, after_line, digit, digits_after, natural, clipped}
+use Rattle.bounds.specs.Kinds.{Kind, made, largest_number}
+use Rattle.loops.specs.Readings.{limit_bound, unmade, number_bound, marked_line_bound, line_bound}
+use Rattle.loops.specs.Lines.{first_line, after_line, digit, digits_after, natural, integer, clipped, signed_clipped}
 
 -- ---- the first line feed
 abbrev pub feed : ℕ → Bool
@@ -81,6 +82,11 @@ module _ (text : List ℕ) (i number : ℕ) (here : i < length text) (so_far : R
   pub read_broken : digit (get_or text i 0) ≡ false → None ≡ option_map clipped (digits_after 0 text)
   read_broken e = at_digit false e
 
+-- a byte below 0 or above 9 is no digit
+pub digit_no : (b : ℕ) → (b < 48) ⊎ (57 < b) → digit b ≡ false
+digit_no b (inl h) = and_left (leb 48 b) (leb b 57) (lt-leb 48 b h)
+digit_no b (inr h) = and_right (leb 48 b) (leb b 57) (lt-leb b 57 h)
+
 -- a text with a byte is read from 0
 pub natural_some : (text : List ℕ) → 0 < length text → natural text ≡ digits_after 0 text
 natural_some [] h = absurd (omega arith)
@@ -90,7 +96,50 @@ pub read_all : (text : List ℕ) (i number : ℕ) → length text ≤ i → numb
 read_all text i number past small so_far =
     ap Some (omega arith) ∙ ap (λ r. option_map clipped (digits_after number r)) (sym (drop_all i text past)) ∙ so_far
 
+-- ---- signs
+neg_clipped : (n : ℕ) → signed_clipped (neg_ℤ (pos n)) ≡ neg_ℤ (pos (clipped n))
+neg_clipped zero = refl
+neg_clipped (suc n) = refl
+
+negated : (o : Option ℕ) → option_map signed_clipped (option_map (λ n. neg_ℤ (pos n)) o) ≡ option_map (λ n. neg_ℤ (pos n)) (option_map clipped o)
+negated None = refl
+negated (Some n) = ap Some (neg_clipped n)
+
+unsigned : (o : Option ℕ) → option_map signed_clipped (option_map pos o) ≡ option_map pos (option_map clipped o)
+unsigned None = refl
+unsigned (Some n) = refl
+
+pub integer_minus : (text digits : List ℕ) → text ≡ 45 ∷ digits → option_map signed_clipped (integer text) ≡ option_map (λ n. neg_ℤ (pos n)) (option_map clipped (natural digits))
+integer_minus text digits e = ap (λ t. option_map signed_clipped (integer t)) e ∙ negated (natural digits)
+
+pub integer_plain : (text : List ℕ) → ((rest : List ℕ) → text ≡ 45 ∷ rest → ⊥) → option_map signed_clipped (integer text) ≡ option_map pos (option_map clipped (natural text))
+integer_plain [] other = refl
+integer_plain (b ∷ text) other =
+    ap (λ (t : Bool). option_map signed_clipped (cond t (option_map (λ n. neg_ℤ (pos n)) (natural text)) (option_map pos (natural (b ∷ text))))) (ne_eqb b 45 (λ e. other text (ap (λ x. x ∷ text) e)))
+    ∙ unsigned (natural (b ∷ text))
+
+-- ---- a clipped number makes what the number makes
+below_or_past : {B : Type 0} (kind : Kind B) (c d : ℤ) (s : Bool) → (nat_abs c ≤ largest_number → c ≡ d) → (largest_number < nat_abs c → largest_number < nat_abs d) → made kind c s ≡ made kind d s
+below_or_past kind c d s same past =
+    ⊎_elim
+    (λ h. ap (λ z. made kind z s) (same (leb-true (nat_abs c) largest_number h)))
+    (λ h.
+    let beyond = past (leb-false (nat_abs c) largest_number h) in
+    cond-false (leb (nat_abs c) largest_number) _ _ h ∙ sym (cond-false (leb (nat_abs d) largest_number) _ _ (lt-leb (nat_abs d) largest_number beyond)))
+    (cases_Bool (leb (nat_abs c) largest_number))
+
+made-clipped : {B : Type 0} (kind : Kind B) (c : ℤ) (s : Bool) → made kind c s ≡ made kind (signed_clipped c) s
+made-clipped kind (pos n) s = below_or_past kind (pos n) (pos (clipped n)) s (λ h. ap pos (omega arith)) (λ h. omega arith)
+made-clipped kind (negsuc n) s = below_or_past kind (negsuc n) (neg_ℤ (pos (clipped (suc n)))) s (λ h. let e : suc n ≡ clipped (suc n) = omega arith in ap (λ m. neg_ℤ (pos m)) e) (λ h. omega (arith, ints))
+
+pub bound_clipped : {B : Type 0} (kind : Kind B) (s : Bool) (o : Option ℤ) → limit_bound kind s (option_map signed_clipped o) ≡ limit_bound kind s o
+bound_clipped kind s None = refl
+bound_clipped kind s (Some c) = ap unmade (sym (made-clipped kind c s))
+
 -- ---- a line
+pub number_bound_by : {B : Type 0} (kind : Kind B) (text : List ℕ) (s : Bool) (n : ℤ) → Some n ≡ option_map signed_clipped (integer text) → unmade (made kind n s) ≡ number_bound kind text s
+number_bound_by kind text s n e = ap (limit_bound kind s) e ∙ bound_clipped kind s (integer text)
+
 pub marked_plain : {B : Type 0} (kind : Kind B) (line : List ℕ) → ((rest : List ℕ) → line ≡ 60 ∷ rest → ⊥) → marked_line_bound kind line ≡ number_bound kind line false
 marked_plain kind [] other = refl
 marked_plain kind (b ∷ text) other = cond-false (eqb b 60) _ _ (ne_eqb b 60 (λ e. other text (ap (λ x. x ∷ text) e)))

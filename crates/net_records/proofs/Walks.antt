@@ -1,15 +1,23 @@
 -- Steps of the walk through the transitions of a net.
-use Rattle.std.proofs.Common.{◌≡◌, ℕ, suc, ◌+◌, ◌-◌, ◌<◌, ◌≤◌, Bool, true, false, cond, ltb, List, length, take, drop, Some, None, Ok, Err, Option, Result, MatchResult, IsErrAnd, sym, refl, ap, ◌∙◌, arith, length-take}
+use Rattle.std.proofs.Common.{◌≡◌, ℕ, suc, ◌+◌, ◌-◌, ◌<◌, ◌≤◌, Bool, true, false, cond, ltb, List, length, take, drop, Some, None, Ok, Err, Option, Result, MatchResult, IsErrAnd, sym, refl, ap, ◌∙◌, ⊎_elim, arith, length-take}
 use Rattle.std.proofs.lemmas.Bool.{lt-ltb, cond-true}
 use Rattle.std.proofs.lemmas.Result.{err_from_is_err_and}
 use Rattle.net_records.specs.Rows.{first_refusal}
 use Rattle.net_records.specs.NetRecords.{at_record, transition_record, record_rows, transition_refusal, or_else, net_header_of, header_fault, transition_fault, transitions_fault, net_fault, tested}
-use Rattle.net_records.specs.Parts.{Unread, past}
+use Rattle.net_records.specs.Parts.{Unread, past, Parted}
+use Rattle.net_records.specs.declared.fault.Missing.{Missing}
+use Rattle.net_records.specs.declared.reader.Part.{Part}
 use Rattle.net_records.specs.Refusals.{NetFault}
 use Rattle.net_records.specs.declared.fault.NetRefusal.{NetRefusal}
 use Rattle.net_records.specs.declared.fault.NetRefusal.TheVariants.{BytesMissing}
 use Rattle.net_records.specs.declared.header.NetHeader.{NetHeader}
 use Rattle.net_records.specs.declared.transition.TransitionRecord.{TransitionRecord}
+
+-- a record that is there is taken off
+pub parted_whole : (size : ℕ) (before : Unread) (r : Result Part Missing) (after : Unread) → 0 < size → size ≤ length before.rest → Parted size before r after → after ≡ past size before
+parted_whole size before (Ok part) after some whole p = p.5
+parted_whole size before (Err missing) after some whole p =
+    absurd (⊎_elim (λ none. omega (arith, none, some)) (λ less. omega (arith, less, whole)) p.0)
 
 -- what an answer of a test says of the fault
 pub tested_ok : {X : Type 0} (x y : X) (o : Option NetFault) → Ok y ≡ tested x o → (o ≡ None) × (y ≡ x)
@@ -85,6 +93,10 @@ walked_all h done left bytes end so_far clean is =
     ∙ ap (λ g. transitions_fault g g.transitions 1 (drop 4 bytes)) (sym is)
     ∙ sym so_far
     ∙ ap (λ n. transitions_fault h n left.next left.rest) e
+
+-- a fault of the header is the net's
+pub header_faulty : (bytes : List ℕ) (f : NetFault) → header_fault bytes ≡ Some f → net_fault bytes ≡ Some f
+header_faulty bytes f e = ap (λ o. or_else o (transitions_fault (net_header_of (take 4 bytes)) (net_header_of (take 4 bytes)).transitions 1 (drop 4 bytes))) e
 
 -- a header that was read from a reader over the bytes
 pub header_clean : (bytes : List ℕ) (start : Unread) (h : NetHeader) → start ≡ record { rest = bytes; next = 0 } → Ok h ≡ tested (net_header_of (take 4 start.rest)) (header_fault start.rest) → (header_fault bytes ≡ None) × (h ≡ net_header_of (take 4 bytes))

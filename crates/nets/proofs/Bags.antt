@@ -27,6 +27,9 @@ permuted_before zs (keep x p) = keep x (permuted_before zs p)
 permuted_before zs (swap x y xs) = swap x y (xs ++ zs)
 permuted_before zs (join p q) = join (permuted_before zs p) (permuted_before zs q)
 
+pub permuted_both : {X : Type 0} {xs ys vs ws : List X} → Permuted xs ys → Permuted vs ws → Permuted (xs ++ vs) (ys ++ ws)
+permuted_both {ys} {vs} p q = join (permuted_before vs p) (permuted_after ys q)
+
 -- one element moves past a list
 pub permuted_past : {X : Type 0} (x : X) (xs ys : List X) → Permuted (x ∷ (xs ++ ys)) (xs ++ (x ∷ ys))
 permuted_past x [] ys = permuted_same (x ∷ ys)

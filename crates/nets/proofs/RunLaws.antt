@@ -21,6 +21,10 @@ module _ {B : Type 0} {kind : Kind B} {k : ℕ} where
   fired_from p f =
       record { removed = f.removed; added = f.added; rest = f.rest; before = join p f.before; after = f.after; takes = f.takes; puts = f.puts }
 
+  pub fired_to : {t : Transition B} {m n o : Marking} → Fired kind k t m n → Permuted n o → Fired kind k t m o
+  fired_to f p =
+      record { removed = f.removed; added = f.added; rest = f.rest; before = f.before; after = join (permuted_back p) f.after; takes = f.takes; puts = f.puts }
+
   pub run_from : {net : Net B} {m n o : Marking} → Permuted m n → Run kind k net n o → Run kind k net m o
   run_from p (stay q) = stay (join p q)
   run_from p (delay d q r) = delay d (delayed_from d p q) r
@@ -30,6 +34,9 @@ module _ {B : Type 0} {kind : Kind B} {k : ℕ} where
   run_after (stay p) s = run_from p s
   run_after (delay d p r) s = delay d p (run_after r s)
   run_after (fire t first last f r) s = fire t first last f (run_after r s)
+
+  pub run_to : {net : Net B} {m n o : Marking} → Run kind k net m n → Permuted n o → Run kind k net m o
+  run_to r p = run_after r (stay p)
 
 -- ---- a transition without arcs
 module _ {B : Type 0} (kind : Kind B) (k : ℕ) where

@@ -15,6 +15,10 @@ same_row j i a b p q e = omega arith
 pub same_column : (j i a b : ℕ) → i < 13 → b < 13 → 13 * j + i ≡ 13 * a + b → i ≡ b
 same_column j i a b p q e = omega arith
 
+-- each cell of a draft is one of its 169
+pub inside_draft : (j i : ℕ) → j < 13 → i < 13 → 13 * j + i < 169
+inside_draft j i p q = omega arith
+
 -- ---- steps one after the other
 module _ {X : Type 0} (step : ℕ → X → X) where
   -- what every step keeps
@@ -31,6 +35,11 @@ module _ {X : Type 0} (step : ℕ → X → X) where
 pub times_first : {X : Type 0} (step : ℕ → X → X) (n : ℕ) (x : X) → times (suc n) step x ≡ times n (λ i. step (suc i)) (step 0 x)
 times_first step zero x = refl
 times_first step (suc n) x = ap (step (suc n)) (times_first step n x)
+
+-- two kinds of steps that do the same
+pub times_same : {X : Type 0} (step other : ℕ → X → X) (n : ℕ) (x : X) → ((i : ℕ) (y : X) → i < n → step i y ≡ other i y) → times n step x ≡ times n other x
+times_same step other zero x same = refl
+times_same step other (suc n) x same = ap (step n) (times_same step other n x (λ i y l. same i y (omega arith))) ∙ same n (times n other x) (omega arith)
 
 -- ---- one cell
 module _ {B : Type 0} where

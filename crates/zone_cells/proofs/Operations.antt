@@ -6,11 +6,11 @@ use Rattle.bounds.specs.declared.range.Range.{Range}
 use Rattle.nets.specs.Nets.{Arc}
 use Rattle.zone_walks.specs.Walks.{Matrix, lesser}
 use Rattle.zone_walks.proofs.Closed.{Same, relaxed}
-use Rattle.zone_walks.proofs.Lessers.{at_most_same, lesser_is_left, lesser_cases, lesser_left, lesser_right}
+use Rattle.zone_walks.proofs.Lessers.{at_most_same, lesser_is_left, lesser_cases, lesser_left, lesser_right, lesser_size}
 use Rattle.zones.specs.Predecessors.{among, narrowed, narrowed_by, others, picked}
-use Rattle.zone_cells.specs.Cells.{times, in_draft, put, lowered, relaxed_row, relaxed_cells, narrowed_cells, moved_row, picked_cells, linked, added_cells, column_least, delayed_cells, arc_at, matched_cells}
+use Rattle.zone_cells.specs.Cells.{times, in_draft, put, lowered, relaxed_row, relaxed_cells, narrowed_cells, moved_row, picked_cells, linked, added_cells, column_least, delayed_cells, arc_at, matched_cells, input_cells}
 use Rattle.zone_cells.proofs.Fills.{RowFilled, GridFilled, row_filled, grid_filled}
-use Rattle.zone_cells.proofs.Grid.{times_keeps, times_leads, length-put, put_same, put_other, put_other_row, put_other_column, lowered_at, times_first, length-lowered, length-narrowed, length-linked}
+use Rattle.zone_cells.proofs.Grid.{times_keeps, times_leads, length-put, put_same, put_other, put_other_row, put_other_column, lowered_at, times_first, times_same, length-lowered, length-narrowed, length-linked}
 
 -- the kept points rise, and are points of a draft
 pub record Rising (kept : List ℕ) (points : ℕ) : Type 0 where
@@ -65,6 +65,10 @@ kept_climb gone m = climbing_more 0 (1 + m) (others gone 1 m) (omega arith) (oth
 pub kept_few : (gone : List ℕ) (m : ℕ) → suc (length (others gone 1 m)) ≤ suc m
 kept_few gone m = omega (arith, others_few gone 1 m)
 
+-- a point that is kept is no larger than the number of tokens
+pub kept_most : (gone : List ℕ) (m j : ℕ) → j < suc (length (others gone 1 m)) → get_or (0 ∷ others gone 1 m) j 0 ≤ m
+kept_most gone m j l = omega (arith, (kept_climb gone m).below j l)
+
 pub kept_rises : (gone : List ℕ) (m : ℕ) → m < 13 → Rising (0 ∷ others gone 1 m) (suc (length (others gone 1 m)))
 kept_rises gone m l =
     let h = kept_climb gone m in
@@ -112,6 +116,17 @@ module _ {B : Type 0} (kind : Kind B) where
       (λ t. pivot_row points pivot cells few still sized j c (eqb-true j pivot t) l h)
       (λ t. other_row points pivot cells few inside still sized j c (eqb-false j pivot t) l h))
       ).done a b p q
+
+  -- a round keeps every cell outside the points
+  pub relaxed_outside : (points pivot : ℕ) (cells : List B) → points ≤ 13 → (a b : ℕ) → b < 13 → (points ≤ a) ⊎ (points ≤ b) → in_draft kind (relaxed_cells kind points pivot cells) a b ≡ in_draft kind cells a b
+  relaxed_outside points pivot cells few a b q out =
+      times_keeps (λ j c. cond (eqb j pivot) c (relaxed_row kind points pivot j c)) (λ c. in_draft kind c a b ≡ in_draft kind cells a b) points cells
+      (λ j c l h. cond_both (eqb j pivot) c (relaxed_row kind points pivot j c) (λ d. in_draft kind d a b ≡ in_draft kind cells a b)
+      (λ _. h)
+      (λ _. times_keeps (λ i d. lowered kind j i (kind.sum (in_draft kind c j pivot) (in_draft kind d pivot i)) d) (λ d. in_draft kind d a b ≡ in_draft kind cells a b) points c
+      (λ i d k g. put_other kind j i (lesser kind (in_draft kind d j i) (kind.sum (in_draft kind c j pivot) (in_draft kind d pivot i))) d a b (omega arith) q (λ s t. ⊎_elim (λ (u : points ≤ a). omega arith) (λ (u : points ≤ b). omega arith) out) ∙ g)
+      h))
+      refl
 
   -- ---- narrowing
   -- two tests of which at most one holds
@@ -230,6 +245,15 @@ module _ {B : Type 0} (kind : Kind B) where
       (times_keeps (λ i c. linked kind range n i c) (λ c. length c ≡ 169) n cells (λ i c l h. length-linked kind range n i c ∙ h) full)
       inside inside
 
+  -- a token for the first arc, then for the rest
+  pub inputs_more : (arc : Arc B) (arcs : List (Arc B)) (n : ℕ) (cells : List B) → input_cells kind (arc ∷ arcs) n cells ≡ input_cells kind arcs (suc n) (added_cells kind arc.range n cells)
+  inputs_more arc arcs n cells =
+      let e : n + 0 ≡ n = omega arith in
+      times_first (λ a c. added_cells kind (arc_at kind (arc ∷ arcs) a).range (n + a) c) (length arcs) cells
+      ∙ ap (λ m. times (length arcs) (λ a c. added_cells kind (arc_at kind arcs a).range (n + suc a) c) (added_cells kind arc.range m cells)) e
+      ∙ times_same (λ a c. added_cells kind (arc_at kind arcs a).range (n + suc a) c) (λ a c. added_cells kind (arc_at kind arcs a).range (suc n + a) c) (length arcs) (added_cells kind arc.range n cells)
+      (λ a c l. let f : n + suc a ≡ suc n + a = omega arith in ap (λ m. added_cells kind (arc_at kind arcs a).range m c) f)
+
   -- ---- the delay predecessor
   delayed_stays : (points : ℕ) (cells : List B) → points ≤ 13 → (a b : ℕ) → b < 13 → (a ≡ 0 → 1 ≤ b → ⊥) → in_draft kind (delayed_cells kind points cells) a b ≡ in_draft kind cells a b
   delayed_stays points cells few a b q out =
@@ -324,3 +348,12 @@ module _ {B : Type 0} (kind : Kind B) where
       (λ e. subst (LeastOf i cells (suc n)) (sym e) (least_later i cells n b h))
       (lesser_cases kind (in_draft kind cells n i) b)))
       (inl refl)
+
+  -- the least of a column is no larger than its bounds
+  pub least_size : (points i : ℕ) (cells : List B) (s : ℕ) → ((j : ℕ) → 1 ≤ j → j < points → kind.size (in_draft kind cells j i) ≤ s) → kind.size (column_least kind points i cells) ≤ s
+  least_size points i cells s small =
+      times_keeps (λ j b. cond (eqb j 0) b (lesser kind (in_draft kind cells j i) b)) (λ b. kind.size b ≤ s) points kind.zero
+      (λ j b l h. cond_both (eqb j 0) b (lesser kind (in_draft kind cells j i) b) (λ c. kind.size c ≤ s)
+      (λ _. h)
+      (λ t. let ne = eqb-false j 0 t in lesser_size kind (in_draft kind cells j i) b s (small j (omega arith) l) h))
+      (omega (arith, kind.zero_size))

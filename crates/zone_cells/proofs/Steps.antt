@@ -12,9 +12,9 @@ use Rattle.zone_walks.specs.NormalForms.{most_points, largest_entry}
 use Rattle.zone_walks.proofs.Closed.{Closed, Below, Same, relaxed}
 use Rattle.zone_walks.proofs.Lessers.{at_most_same, at_most_equal, lesser_left, lesser_size, lesser_is_left, lesser_is_right}
 use Rattle.zone_walks.proofs.Sums.{zero_after, monotone_right, reached_leg, reached_append, reached_more}
-use Rattle.zone_walks.proofs.NormalForms.{same_back, same_from, normal_sized, normal_below, normal_closed, closed_normal}
-use Rattle.zone_walks.proofs.Rounds.{Progress, Finished, progress_none, progress_round, progress_normal}
-use Rattle.zone_walks.proofs.Again.{counted_sized, counted_clock, counted_same}
+use Rattle.zone_walks.proofs.NormalForms.{same_back, same_sized, same_from, same_settled, same_closed, normal_sized, normal_below, normal_closed, closed_normal, closed_itself}
+use Rattle.zone_walks.proofs.Rounds.{Progress, Finished, progress_same, progress_none, progress_round, progress_normal}
+use Rattle.zone_walks.proofs.Again.{counted_still, counted_sized, counted_clock, counted_same}
 use Rattle.zones.specs.Zones.{Zone, points}
 use Rattle.zones.specs.Predecessors.{released, among, stands, matches, narrowed, narrowed_by, others, staying, picked, places_at, with_token, with_tokens, Void, FiringPredecessor}
 use Rattle.zone_cells.specs.Cells.{arc_at}
@@ -134,6 +134,15 @@ module _ {B : Type 0} (kind : Kind B) where
   -- ---- good matrices and normal forms
   pub good_more : (n s t : ℕ) (x : Matrix B) → s ≤ t → Good kind n s x → Good kind n t x
   good_more n s t x le g = record { closed = g.closed; clock = g.clock; sized = λ j i a b. omega (arith, g.sized j i a b) }
+
+  pub good_as : (n s : ℕ) (x y : Matrix B) → 1 ≤ n → Same n x y → Good kind n s x → Good kind n s y
+  good_as n s x y some e g = record { closed = same_closed kind n x y e g.closed; clock = λ i h. subst (λ b. kind.at_most b kind.zero ≡ true) (e 0 i some h) (g.clock i h); sized = same_sized kind n s x y e g.sized }
+
+  pub good_same : (n s : ℕ) (x : Matrix B) → Good kind n s x → Same n (counted kind x) x
+  good_same n s x g = counted_same kind n x g.closed.still g.clock
+
+  pub good_normal : (n s : ℕ) (x : Matrix B) → n ≤ most_points → s ≤ 2 ^ 30 → Good kind n s x → NormalForm kind n (counted kind x) x
+  good_normal n s x few small g = same_from kind n x (counted kind x) x (same_back kind n (counted kind x) x (good_same n s x g)) (closed_itself kind n s x few small g.sized g.closed)
 
   pub normal_good : (n s : ℕ) (x : Matrix B) → n ≤ most_points → 1 ≤ n → s ≤ 2 ^ 30 → Still kind n x → NormalForm kind n (counted kind x) x → Sized kind n s x → Good kind n s x
   normal_good n s x few some small still h sized = record { closed = normal_closed kind n s (counted kind x) x few small counts h none; clock = clock; sized = sized }
@@ -340,6 +349,28 @@ module _ {B : Type 0} (kind : Kind B) where
   narrow_settled n s arcs matching x v g inside some apart j i a b =
       subst₂ (λ p q. kind.at_most (narrowed_by kind arcs matching x j i) (kind.sum p q) ≡ true) (sym (narrow_column arcs matching x v j some apart)) (sym (narrow_row arcs matching x v i some apart))
       (kind.transitive _ (x j i) _ (narrow_below n arcs matching x j i a b) (g.closed.settled v inside j i a b))
+
+  -- the elimination may begin with all points done but the clock and the matched tokens
+  pub narrow_progress : (n s places : ℕ) (arcs : List (Arc B)) (matching : List ℕ) (x : Matrix B) → 1 ≤ n → 32767 ≤ s → s ≤ 2 ^ 26 → Every (ArcLimits kind places) arcs → Good kind n s x → Progress kind n (counted kind (narrowed_by kind arcs matching x)) 0 (λ v. not (eqb v 0 || among v matching)) (narrowed_by kind arcs matching x)
+  narrow_progress n s places arcs matching x some large small limits g =
+      progress_same kind n (counted kind w) 0 done (counted kind w) w same (progress_none kind n (counted kind w) done (counted_still kind n w) entries settles)
+    where
+      w : Matrix B
+      w = narrowed_by kind arcs matching x
+
+      done : ℕ → Bool
+      done v = not (eqb v 0 || among v matching)
+
+      same : Same n (counted kind w) w
+      same = narrow_same n s arcs matching x some g
+
+      entries : Sized kind n largest_entry (counted kind w)
+      entries j i a b = omega (arith, counted_sized kind n s w (narrow_sized n s places arcs matching x limits large g.sized) j i a b)
+
+      settles : (v : ℕ) → v < n → done v ≡ true → Settled kind n (counted kind w) v
+      settles v h t =
+          let parts = or_parts (eqb v 0) (among v matching) (not-true (eqb v 0 || among v matching) t) in
+          same_settled kind n w (counted kind w) v h (same_back kind n (counted kind w) w same) (narrow_settled n s arcs matching x v g h (omega (arith, eqb-false v 0 parts.0)) parts.1)
 
   -- the normal form of what is narrowed
   pub narrow_good : (n s places : ℕ) (arcs : List (Arc B)) (matching : List ℕ) (x y : Matrix B) → n ≤ most_points → 1 ≤ n → 32767 ≤ s → s ≤ 2 ^ 26 → Every (ArcLimits kind places) arcs → Good kind n s x → NormalForm kind n (counted kind (narrowed_by kind arcs matching x)) y → (Negative kind n (counted kind (narrowed_by kind arcs matching x)) → ⊥) → Good kind n (n * s) y
@@ -757,7 +788,7 @@ module _ {B : Type 0} (kind : Kind B) where
       replaced_few = omega (arith, staying_few gone z, few_ins)
 
       module _ (y : Matrix B) (added : Added kind (suc (length (staying gone z))) ins (length ins) (picked (0 ∷ staying gone z) narrow) y) where
-        replaced_points : suc (length (staying gone z)) + length ins ≡ points (replaced_back gone ins z y)
+        pub replaced_points : suc (length (staying gone z)) + length ins ≡ points (replaced_back gone ins z y)
         replaced_points = omega (arith, length-append (places_at (staying gone z) z) (map (λ a. a.place) ins), length-map (staying gone z) (λ i. numbered z.places i 0), length-map ins (λ a. a.place))
 
         pub replaced_normal : NormalForm kind (points (replaced_back gone ins z y)) (counted kind (with_tokens kind (suc (length (staying gone z))) ins (picked (0 ∷ staying gone z) narrow))) y

@@ -1,5 +1,5 @@
 -- The steps of both predecessors put together.
-use Rattle.std.proofs.Common.{◌≡◌, ℕ, suc, ◌+◌, ◌-◌, ◌<◌, ◌≤◌, Bool, true, false, cond, eqb, List, ◌∷◌, ◌++◌, map, length, get_or, take, drop, sym, ap, ◌∙◌, subst, subst₂, ap₂, arith}
+use Rattle.std.proofs.Common.{◌≡◌, ℕ, suc, ◌+◌, ◌-◌, ◌<◌, ◌≤◌, Bool, true, false, cond, eqb, List, ◌∷◌, ◌++◌, map, length, get_or, take, drop, Some, None, sym, refl, ap, ◌∙◌, subst, subst₂, ap₂, arith}
 use Rattle.bounds.specs.Kinds.{Kind}
 use Rattle.zone_cells.specs.Cells.{arc_at, in_draft, matched_cells, narrowed_cells, times, picked_cells, input_cells, delayed_cells}
 use Rattle.zone_cells.specs.Drafts.{draft_zone, Workable}
@@ -13,7 +13,8 @@ use Rattle.zone_drafts.proofs.Steps.{one_numbered, last_numbered}
 use Rattle.nets.specs.Nets.{Arc, Transition, TransitionLimits, no_arc, numbered}
 use Rattle.zones.specs.Predecessors.{matches}
 use Rattle.std.proofs.lemmas.List.{length-map, take_rest}
-use Rattle.zone_drafts.specs.Backwards.{DelayedBack, NarrowedAnswer, Narrowed, Replaced, Predecessor}
+use Rattle.zone_drafts.specs.Backwards.{DelayedBack, NarrowedAnswer, Narrowed, Replaced, Predecessor, FiredBack}
+use Rattle.arrayvec.specs.ArrayVec.{ArrayVec}
 
 module _ {B : Type 0} (kind : Kind B) where
   pub delayed_back : (places : List ℕ) (before after : List B) → after ≡ delayed_cells kind (length places + 1) before → DelayedBack kind places before after
@@ -65,6 +66,21 @@ module _ {B : Type 0} (kind : Kind B) where
                 small = firing_small kind places before work t net_places limits ms matched closed consistent whole count kept listed all;
               });
         }
+
+  -- the answers of a firing: it is void, or its two halves are the predecessor
+  module _ (t : Transition B) (ms : List ℕ) where
+    pub fired_void : (places : List ℕ) (before after : List B) → Narrowed kind t ms places before after false → FiredBack kind t ms places before after None
+    fired_void places before after narrowed = record { kept = narrowed.kept; answered = narrowed.answered }
+
+    pub fired_some : (places : List ℕ) (before closed after : List B) (tokens : ArrayVec ℕ) → Narrowed kind t ms places before closed true → Replaced kind t ms places closed after tokens.items → FiredBack kind t ms places before after (Some tokens)
+    fired_some places before closed after tokens narrowed replaced =
+        record {
+          kept = replaced.kept ∙ narrowed.kept;
+          answered = λ work matched. replaced.answered before work matched (narrowed.kept ∙ work.full) (narrowed.answered work matched);
+        }
+
+    pub fired_not : (places : List ℕ) (before : List B) → 8 < length places → FiredBack kind t ms places before before None
+    fired_not places before many = record { kept = refl; answered = λ work matched. absurd (omega (arith, many, work.formed.few)) }
 
 -- the points behind the clock, each under f
 module _ (f : ℕ → ℕ) (ms points part first : List ℕ) (n : ℕ) (listed : points ≡ 0 ∷ sifted false ms 1 n) (same : part ≡ points) (is : first ≡ map f (take (length part - 1) (drop 1 part))) where

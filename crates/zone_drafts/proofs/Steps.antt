@@ -26,6 +26,14 @@ pub last_numbered : {X : Type 0} (n i : ℕ) (step : ℕ → X → X) (x now : X
 last_numbered zero i step x now so_far past end none = let e : i - 1 ≡ 0 = omega (arith, none refl) in so_far ∙ ap (λ m. times m step x) e
 last_numbered (suc n) i step x now so_far past end none = absurd (omega (arith, past, end (omega arith)))
 
+-- a loop that begins at 1, since the step with 0 does nothing
+pub from_one : {X : Type 0} (points i : ℕ) (step : ℕ → X → X) (x now : X) → 1 ≤ i → points ≤ i → (1 ≤ points → i ≤ points) → (points ≡ 0 → i ≡ 1) → step 0 x ≡ x → now ≡ times i step x → now ≡ times points step x
+from_one zero i step x now first last end none idle is =
+    is ∙ ap (λ m. times m step x) (none refl) ∙ idle
+from_one (suc p) i step x now first last end none idle is =
+    let e : i ≡ suc p = omega (arith, last, end (omega arith)) in
+    is ∙ ap (λ m. times m step x) e
+
 -- a fold that begins at 1, since the step with 0 does nothing
 module _ {X : Type 0} (least : ℕ → X → X) (first : X) where
   abbrev step : ℕ → X → X

@@ -90,8 +90,9 @@ places_order c d = by_test (int_le c d) refl
     by_test true e = sym (omega (arith, ints))
     by_test false e = sym (omega (arith, ints))
 
-past : (c : ℤ) → number_allows 1 c false (c +ℤ pos 1) ≡ false
-past c = sym (omega (arith, ints))
+past : (c : ℤ) (s : Bool) → number_allows 1 c s (c +ℤ pos 1) ≡ false
+past c true = sym (omega (arith, ints))
+past c false = sym (omega (arith, ints))
 
 module _ {B : Type 0} (kind : Kind B) where
   abbrev pub of : Entry → B
@@ -106,23 +107,23 @@ module _ {B : Type 0} (kind : Kind B) where
   unmarked_named c h =
       record { small = omega (arith, leb-true (nat_abs c) largest_entry h); takes = λ e. absurd (false≢true e) }
 
-  fits_size : (a : Entry) → fits a ≡ true → kind.size (of a) ≤ largest_entry
+  pub fits_size : (a : Entry) → fits a ≡ true → kind.size (of a) ≤ largest_entry
   fits_size (Some c) h = omega (arith, kind.numbers_size c false (unmarked_named c h), leb-true (nat_abs c) largest_entry h)
   fits_size None h = omega (arith, kind.no_limit_size)
 
   -- no limit is above every number, since it allows more
-  above_numbers : (c : ℤ) → Named kind.marks c false → kind.at_most kind.no_limit (kind.number c false) ≡ false
-  above_numbers c named =
+  pub above_numbers : (c : ℤ) (s : Bool) → Named kind.marks c s → kind.at_most kind.no_limit (kind.number c s) ≡ false
+  above_numbers c s named =
       let one : 1 ≤ 1 = omega arith in
       ⊎_elim
-      (λ h. absurd (true≢false (sym (kind.larger_allows 1 kind.no_limit (kind.number c false) (c +ℤ pos 1) one h (kind.no_limit_allows 1 (c +ℤ pos 1) one)) ∙ kind.numbers_allow 1 c false (c +ℤ pos 1) one named ∙ past c)))
+      (λ h. absurd (true≢false (sym (kind.larger_allows 1 kind.no_limit (kind.number c s) (c +ℤ pos 1) one h (kind.no_limit_allows 1 (c +ℤ pos 1) one)) ∙ kind.numbers_allow 1 c s (c +ℤ pos 1) one named ∙ past c s)))
       (λ h. h)
-      (cases_Bool (kind.at_most kind.no_limit (kind.number c false)))
+      (cases_Bool (kind.at_most kind.no_limit (kind.number c s)))
 
-  at_most_of : (a b : Entry) → fits a ≡ true → fits b ≡ true → kind.at_most (of a) (of b) ≡ entry_at_most a b
+  pub at_most_of : (a b : Entry) → fits a ≡ true → fits b ≡ true → kind.at_most (of a) (of b) ≡ entry_at_most a b
   at_most_of (Some c) (Some d) p q = kind.numbers_order c d false false (unmarked_named c p) (unmarked_named d q) ∙ places_order c d
   at_most_of (Some c) None p q = kind.top (kind.number c false)
-  at_most_of None (Some d) p q = above_numbers d (unmarked_named d q)
+  at_most_of None (Some d) p q = above_numbers d false (unmarked_named d q)
   at_most_of None None p q = kind.top kind.no_limit
 
   -- small numbers have small sums
@@ -130,7 +131,7 @@ module _ {B : Type 0} (kind : Kind B) where
   within c d p q =
       le-leb (nat_abs (c +ℤ d)) largest_size (omega (arith, ints, leb-true (nat_abs c) largest_entry p, leb-true (nat_abs d) largest_entry q))
 
-  sum_of : (a b : Entry) → fits a ≡ true → fits b ≡ true → kind.sum (of a) (of b) ≡ of (entry_sum a b)
+  pub sum_of : (a b : Entry) → fits a ≡ true → fits b ≡ true → kind.sum (of a) (of b) ≡ of (entry_sum a b)
   sum_of (Some c) (Some d) p q =
       kind.numbers_sum c d false false (unmarked_named c p) (unmarked_named d q) ∙ ap (λ t. cond t (kind.number (c +ℤ d) false) kind.no_limit) (within c d p q)
   sum_of (Some c) None p q =

@@ -27,11 +27,11 @@ next_below limit test after (Some n) first =
     record { above = omega (arith, first.0); small = first.1; passes = first.2; between = λ k above below. first.3 k (omega (arith, above)) below }
 
 module _ (arcs places ds : List ℕ) (n : ℕ) (e : ds ≡ fields n) where
-  starts : (count end : ℕ) → Fitting arcs places ds count → end ≡ min (count + 1) 4 → Passed arcs places end n
+  pub starts : (count end : ℕ) → Fitting arcs places ds count → end ≡ min (count + 1) 4 → Passed arcs places end n
   starts count end f is =
       subst (λ p. Passed arcs places p n) (sym is) (passed_first arcs places n count (subst (λ x. Fitting arcs places x count) e f))
 
-  passes : (p : ℕ) → p < 4 → ((x : ℕ) → get_or ds p 0 < x → x < 16 → digit_fits arcs places (take p ds) x ≡ false) → Passed arcs places (suc p) n → Passed arcs places p n
+  pub passes : (p : ℕ) → p < 4 → ((x : ℕ) → get_or ds p 0 < x → x < 16 → digit_fits arcs places (take p ds) x ≡ false) → Passed arcs places (suc p) n → Passed arcs places p n
   passes p h none later =
       passed_more arcs places p n h (subst (λ xs. (x : ℕ) → get_or xs p 0 < x → x < 16 → digit_fits arcs places (take p xs) x ≡ false) e none) later
 
@@ -41,7 +41,7 @@ module _ (arcs places ds : List ℕ) (n : ℕ) (e : ds ≡ fields n) where
       let bounds = raised_small p n d here s least.small least.above in
       record { above = bounds.0; small = bounds.1; passes = raised_fits arcs places p n d here least.small (λ k l. f.before k (omega arith)) least.passes; between = raised_none arcs places p n d here s least.small least.above least.between later }
 
-  found : (count p d r : ℕ) → n < 65536 → Fitting arcs places ds count → p < min (count + 1) 4 → Passed arcs places (suc p) n → Least 16 (digit_fits arcs places (take p ds)) (get_or ds p 0) d → r ≡ raised n p d → Least 65536 (λ m. all_fit arcs places [] (fields m)) n r
+  pub found : (count p d r : ℕ) → n < 65536 → Fitting arcs places ds count → p < min (count + 1) 4 → Passed arcs places (suc p) n → Least 16 (digit_fits arcs places (take p ds)) (get_or ds p 0) d → r ≡ raised n p d → Least 65536 (λ m. all_fit arcs places [] (fields m)) n r
   found count p d r s f h later least is =
       subst (λ x. Least 65536 (λ m. all_fit arcs places [] (fields m)) n x) (sym is) (found_at count p d s (subst (λ x. Fitting arcs places x count) e f) h later (subst (λ x. Least 16 (digit_fits arcs places (take p x)) (get_or x p 0) d) e least))
 

@@ -28,6 +28,9 @@ module _ {B : Type 0} (kind : Kind B) where
   same_settled n x w v p e h j i a b =
       rw (← (e j i a b), ← (e j v a p), ← (e v i p b)) (h j i a b)
 
+  pub same_closed : (n : ℕ) (x w : Matrix B) → Same n x w → Closed kind n x → Closed kind n w
+  same_closed n x w e h = record { still = same_still n x w e h.still; settled = λ v p. same_settled n x w v p e (h.settled v p) }
+
   pub same_sum : (n : ℕ) (x w : Matrix B) → Same n x w → (j : ℕ) (legs : List ℕ) → j < n → Inside n legs → walk_sum kind x j legs ≡ walk_sum kind w j legs
   same_sum n x w e j [] h k = refl
   same_sum n x w e j (p ∷ legs) h k = ap (λ b. kind.sum b (walk_sum kind x p legs)) (e j p h k.0) ∙ ap (kind.sum (w j p)) (same_sum n x w e p legs k.0 k.1)

@@ -124,6 +124,10 @@ module _ {B : Type 0} (kind : Kind B) (n : ℕ) (x : Matrix B) where
   progress_fewer r done less y fewer p =
       record { reached = p.reached; below = p.below; settled = λ v a d. p.settled v a (fewer v a d); still = λ v a d. p.still v a (fewer v a d); loops = p.loops }
 
+  pub progress_more_rounds : (r t : ℕ) (done : ℕ → Bool) (y : Matrix B) → r ≤ t → Progress kind n x r done y → Progress kind n x t done y
+  progress_more_rounds r t done y le p =
+      record { reached = λ j i a b. reached_more kind n (2 ^ r) (2 ^ t) x j i (y j i) (pow-le-pow_right two le) (p.reached j i a b); below = p.below; settled = p.settled; still = p.still; loops = p.loops }
+
   pub progress_none : (done : ℕ → Bool) → Still kind n x → Sized kind n largest_entry x → ((v : ℕ) → v < n → done v ≡ true → Settled kind n x v) → Progress kind n x 0 done x
   progress_none done still sized settled =
       record {

@@ -48,6 +48,11 @@ module _ {B : Type 0} (kind : Kind B) where
   monotone_right a b c h k le =
       rw (kind.commutative c a (omega arith), kind.commutative c b (omega arith)) (kind.monotone a b c h k le)
 
+  -- larger bounds have a larger sum
+  pub monotone_both : (a b c d : B) (s t : ℕ) → kind.size a ≤ s → kind.size b ≤ s → kind.size c ≤ t → kind.size d ≤ t → s + t ≤ largest_size → kind.at_most a b ≡ true → kind.at_most c d ≡ true → kind.at_most (kind.sum a c) (kind.sum b d) ≡ true
+  monotone_both a b c d s t ha hb hc hd room h k =
+      kind.transitive (kind.sum a c) (kind.sum b c) (kind.sum b d) (kind.monotone a b c (omega arith) (omega arith) h) (monotone_right c d b (omega arith) (omega arith) k)
+
   -- ---- sums of walks
   module _ (n s : ℕ) (x : Matrix B) (sized : Sized kind n s x) where
     pub walk_size : (j : ℕ) (legs : List ℕ) → j < n → Inside n legs → kind.size (walk_sum kind x j legs) ≤ length legs * s

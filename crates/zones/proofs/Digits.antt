@@ -1,6 +1,7 @@
--- Matchings by their digits: a number is a matching where each digit digit_fits, and the next one raises a single digit.
+-- Matchings by their digits: a number is a matching where each digit fits, and the next one raises a single digit.
 use Rattle.std.proofs.Common.{◌≡◌, ℕ, zero, suc, ◌+◌, ◌-◌, ◌*◌, ◌/◌, ◌^◌, ◌<◌, ◌≤◌, min, Bool, true, false, not, ◌&&◌, ◌||◌, eqb, ◌⊎◌, List, [], ◌∷◌, ◌++◌, map, length, get_or, take, drop, sym, refl, ap, ◌∙◌, subst, ap₂, inl, inr, arith}
-use Rattle.std.proofs.lemmas.Bool.{eq-eqb, ne_eqb, false≢true, and_parts, and_from, and_left, and_right, cases_lt, cases_order}
+use Rattle.std.proofs.lemmas.List.{at_drop_more, drop_all}
+use Rattle.std.proofs.lemmas.Bool.{eq-eqb, ne_eqb, false≢true, and_parts, and_from, and_left, and_right, or_left, cases_lt, cases_order}
 use Rattle.std.proofs.lemmas.Bool.Decides.{nat_tests}
 use Rattle.std.proofs.Math.Bool.{and-false, and-true, or-false, or-true}
 use Rattle.nets.specs.Nets.{Arc}
@@ -73,7 +74,7 @@ length_places : {B : Type 0} (arcs : List (Arc B)) → length (map (λ a. a.plac
 length_places [] = refl
 length_places (a ∷ arcs) = ap suc (length_places arcs)
 
--- a number is a matching where each digit digit_fits
+-- a number is a matching where each digit fits
 pub all_fit_matching : {B : Type 0} (places : List ℕ) (arcs : List (Arc B)) (n : ℕ) → length arcs ≤ 4 → all_fit (map (λ a. a.place) arcs) places [] (fields n) ≡ is_matching places arcs n
 all_fit_matching places arcs n few =
     walk_fits places (map (λ a. a.place) arcs) _ _ _ _ (omega (arith, length_places arcs))
@@ -155,11 +156,11 @@ module _ (arcs places : List ℕ) where
   spoiled : (p n : ℕ) → p < 4 → digit_fits arcs places (take p (fields n)) (digit p n) ≡ false → all_fit arcs places [] (fields n) ≡ false
   spoiled p n h e = spoiled_in (digit 0 n) (digit 1 n) (digit 2 n) (digit 3 n) p h e
 
-  -- no larger number with the same front digit_fits
+  -- no larger number with the same front fits
   abbrev pub Passed : ℕ → ℕ → Type 0
   Passed p n = (i : ℕ) → n < i → i < 65536 → front p i ≡ front p n → all_fit arcs places [] (fields i) ≡ false
 
-  -- nor one whose digit here is less than a limit up to which none digit_fits
+  -- nor one whose digit here is less than a limit up to which none fits
   passed_below : (p n limit : ℕ) → p < 4 → ((x : ℕ) → digit p n < x → x < limit → digit_fits arcs places (take p (fields n)) x ≡ false) → Passed (suc p) n → (i : ℕ) → n < i → i < 65536 → front p i ≡ front p n → digit p i < limit → all_fit arcs places [] (fields i) ≡ false
   passed_below p n limit h none later i l s e b =
       elim (parted p i n h l e) [ inl same ↦ later i l s same | inr more ↦ spoiled p i h (subst (λ before. digit_fits arcs places before (digit p i) ≡ false) (sym (same_front p i n (omega arith) e)) (none (digit p i) more b)) ]
@@ -168,7 +169,7 @@ module _ (arcs places : List ℕ) where
   counted_fit n count f =
       elim (cases_lt count 4) [ inl l ↦ ne_eqb count 4 (omega arith) ∙ sym (spoiled count n l (f.stop l)) | inr m ↦ let is : count ≡ 4 = omega (arith, f.within) in eq-eqb count 4 is ∙ sym (and_from _ _ (f.before 0 (omega arith)) (and_from _ _ (f.before 1 (omega arith)) (and_from _ _ (f.before 2 (omega arith)) (and_from _ _ (f.before 3 (omega arith)) refl)))) ]
 
-  -- where every digit digit_fits, only the number itself has all of its digits
+  -- where every digit fits, only the number itself has all of its digits
   passed_whole : (n : ℕ) → Passed 4 n
   passed_whole n i l s e = absurd (omega arith)
 
@@ -182,7 +183,7 @@ module _ (arcs places : List ℕ) where
   passed_first n count f =
       elim (cases_lt count 4) [ inl l ↦ let is : suc count ≡ min (count + 1) 4 = omega arith in subst (λ p. Passed p n) is (passed_spoiled count n l (f.stop l)) | inr m ↦ let is : 4 ≡ min (count + 1) 4 = omega arith in subst (λ p. Passed p n) is (passed_whole n) ]
 
-  -- no larger digit digit_fits
+  -- no larger digit fits
   pub passed_more : (p n : ℕ) → p < 4 → ((x : ℕ) → get_or (fields n) p 0 < x → x < 16 → digit_fits arcs places (take p (fields n)) x ≡ false) → Passed (suc p) n → Passed p n
   passed_more p n h none later i l s e = passed_below p n 16 h none later i l s e (digit_small p i h)
 
@@ -268,3 +269,14 @@ packs places arcs matching few_arcs few_places m =
     let digits : digits_of arcs (packed matching) ≡ matching = ap₂ (λ k ds. take k ds) (sym each) said.1 ∙ parts.0 in
     let zeros : all_zero (drop (length arcs) (fields (packed matching))) ≡ true = ap₂ (λ k ds. all_zero (drop k ds)) (sym each) said.1 ∙ parts.1 in
     (packed matching, said.0, digits, and_from _ _ (ap (λ ds. matches places arcs ds) digits ∙ m) zeros)
+
+-- ---- a token looked for among digits, from a place on
+pub among_found : (token : ℕ) (ds : List ℕ) (i : ℕ) → i < length ds → token ≡ get_or ds i 0 → among token (drop i ds) ≡ true
+among_found token ds i h e = at_drop_more (among token) ds i 0 h ∙ or_left _ _ (eq-eqb token (get_or ds i 0) e)
+
+pub among_passed : (token : ℕ) (ds : List ℕ) (i : ℕ) → i < length ds → (token ≡ get_or ds i 0 → ⊥) → among token (drop i ds) ≡ among token (drop (i + 1) ds)
+among_passed token ds i h n =
+    at_drop_more (among token) ds i 0 h ∙ ap (λ t. t || among token (drop (i + 1) ds)) (ne_eqb token (get_or ds i 0) n)
+
+pub among_end : (token : ℕ) (ds : List ℕ) (i : ℕ) → length ds ≤ i → among token (drop i ds) ≡ false
+among_end token ds i h = ap (among token) (drop_all i ds h)

@@ -4,15 +4,14 @@ ghost use Rattle.std.specs.Prelude.{[], ◌++◌, ◌≡◌, ◌≤◌, ◌∷�
 ghost use Rattle.zone_cells.specs.Sifted.{sifted};
 ghost use Rattle.nets.specs.Nets.{numbered};
 
+use crate::byte_list::ByteList;
 use crate::bytes::place_of;
-use arrayvec::ArrayVec;
 use zone_matchings::is_among;
 
-/// The place of each token of a zone, in fixed memory; a predecessor has up to 12.
-pub type Tokens = ArrayVec<u8, 12>;
+/// The place of each token of a zone; a predecessor has up to 12.
+pub type Tokens = ByteList<12>;
 
-// The tokens with these numbers. Pushed one by one, here and below: `collect` wants an allocator,
-// and `extend` answers an AllocError that cannot come.
+// The tokens with these numbers. Pushed one by one, here and below: `collect` wants an allocator.
 pub(crate) fn some_tokens(places: &[u8], numbers: &[u8]) -> Tokens
     requires { length numbers.now ≤ 12 }
     ensures { result.items ≡ map (λ i. numbered places.now i 0) numbers.now }
@@ -24,8 +23,8 @@ pub(crate) fn some_tokens(places: &[u8], numbers: &[u8]) -> Tokens
     tokens
 }
 
-// Points of a draft, the clock first.
-pub(crate) type Points = ArrayVec<u8, 13>;
+/// Points of a draft, the clock first.
+pub type Points = ByteList<13>;
 
 // The clock, and the tokens that are matched, or those that are not: the flag is only compared, so
 // two closures would say no more.

@@ -11,3 +11,5 @@ mod file;
 mod net_cases;
 #[cfg(test)]
 mod voucher_cases;
+#[cfg(test)]
+mod word_cases;

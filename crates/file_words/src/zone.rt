@@ -1,17 +1,17 @@
 // A zone in words: its tokens with their places, and the table of its bounds.
 ghost use Rattle.std.specs.Prelude.{◌≡◌, ◌<◌, ◌++◌, Some, string_bytes, length, OnOk};
-ghost use Rattle.zone_cells.specs.Cells.{in_page};
+ghost use Rattle.zone_cells.specs.Cells.{in_draft};
 ghost use Rattle.file_words.specs.Told.{last_page_text};
 ghost use Rattle.file_words.specs.Zones.{places_text, zone_text};
 
 use crate::bound::BoundWords;
 use crate::numbered::Numbered;
-use crate::table::write_table;
+use crate::table::{Bounds, Draft, write_table};
 use file_check::DocketFile;
 use net_words::Counted;
 use std::alloc::AllocError;
 use std::fmt;
-use zone_pages::Page;
+use zone_drafts::tokens::Tokens;
 
 // A line for each token.
 #[derive(Clone, Copy)]
@@ -29,28 +29,45 @@ impl<'a> fmt::Display for Places<'a> {
     }
 }
 
-// The zone of a page. No `Display`, as its table is none.
-fn write_zone<B: BoundWords>(
+// The zone in these places with the bounds of a table. No `Display`, as its table is none.
+fn write_tabled<B: BoundWords, T: Bounds<B>>(
     text: &mut String,
     number: u8,
-    page: &Page<'_, B>,
+    places: &[u8],
+    table: &T,
 ) -> Result<(), AllocError>
-    requires { length page.now.places.now < 256 }
+    requires { length places.now < 256 }
     ensures { OnOk result
         (string_bytes text.new
         ≡ string_bytes text.old
-        ++ zone_text B.BoundWords.words number page.now.places.now
-        (in_page B.Bound.kind page.now.cells.now)) }
+        ++ zone_text B.BoundWords.words number places.now (T.Bounds.bounds table.now)) }
 {
     let name = Numbered::zone(number);
-    let count = page.places.len() as u8;
+    let count = places.len() as u8;
     let counted = Counted {
         count: u64::from(count),
         name: "token",
     };
-    let places = Places(page.places);
+    let places = Places(places);
     write!(text, "{name}: {counted}\n{places}")?;
-    write_table(text, page, count)
+    write_table(text, table, count)
+}
+
+/// Writes the zone of these tokens whose bounds stand in the cells of a draft. The target has
+/// number 0, and the listed zones follow it.
+pub fn write_zone<B: BoundWords>(
+    text: &mut String,
+    number: u8,
+    tokens: Tokens,
+    cells: &[B],
+) -> Result<(), AllocError>
+    ensures { OnOk result
+        (string_bytes text.new
+        ≡ string_bytes text.old
+        ++ zone_text B.BoundWords.words number tokens.items
+        (in_draft B.Bound.kind cells.now)) }
+{
+    write_tabled(text, number, &tokens, &Draft(cells))
 }
 
 // The zone that the docket of the file took last.
@@ -63,5 +80,6 @@ pub(crate) fn write_last<B: BoundWords>(
         ≡ string_bytes text.old ++ last_page_text B.Bound.kind B.BoundWords.words file.now.world) }
 {
     let number = file.listed();
-    write_zone(text, number, &file.page(number))
+    let page = file.page(number);
+    write_tabled(text, number, page.places, &page)
 }

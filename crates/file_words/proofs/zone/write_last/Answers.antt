@@ -11,9 +11,9 @@ returns g c =
     let kind = g.B.Bound.kind in
     let words = g.B.BoundWords.words in
     let w = c.args.file.now.world in
-    let page = c.page.result in
+    let page = c.page-page.result in
     let number = c.listed-number.ensures in
-    let places = c.page.ensures.places ∙ ap (page_places_at w) number in
-    let cells = c.page.ensures.cells ∙ ap (page_cells_at w) number in
+    let places = c.page-page.ensures.places ∙ ap (page_places_at w) number in
+    let cells = c.page-page.ensures.cells ∙ ap (page_cells_at w) number in
     let same : zone_text words c.listed-number.result page.places.now (in_page kind page.cells.now) ≡ last_page_text kind words w = λ i. zone_text words (number i) (places i) (in_page kind (cells i)) in
-    subst (λ t. OnOk c.write_zone.result (string_bytes c.write_zone.new.text ≡ string_bytes c.args.text.now ++ t)) same c.write_zone.ensures
+    subst (λ t. OnOk c.write_tabled.result (string_bytes c.write_tabled.new.text ≡ string_bytes c.args.text.now ++ t)) same c.write_tabled.ensures

@@ -1,5 +1,5 @@
 //! The packed net store: net records in borrowed bytes, tested first. Each arc is decoded where it
-//! lies.
+//! lies, and inlined, of its slot only what is asked for.
 ghost use Rattle.net_records.specs.NetBytes.{after_net, arcs_at, TransitionAt, net_of};
 ghost use Rattle.net_records.specs.NetBytes.{side_count};
 ghost use Rattle.net_records.specs.NetBytes.{side_start, slot_at};
@@ -27,6 +27,7 @@ pub struct PackedNet<'a> {
     ghost read: { header ≡ front_header bytes.now },
 }
 
+#[inline]
 fn has_arc(bytes: &[u8; TransitionRecord::SIZE], side: Side, arc: u8) -> bool
     ensures { result ≡
         (nat_le 1 arc && nat_le arc (side_count side (transition_record bytes.now))) }
@@ -35,6 +36,7 @@ fn has_arc(bytes: &[u8; TransitionRecord::SIZE], side: Side, arc: u8) -> bool
 }
 
 /// Where the slots of a side begin.
+#[inline]
 fn first_slot(side: Side) -> usize
     ensures start { result ≡ side_start side }
     ensures bound { result ≤ 21 }
@@ -76,6 +78,7 @@ impl<'a> PackedNet<'a> {
     }
 
     /// The bytes of a transition, if there is one of this number.
+    #[inline]
     fn transition(&self, number: u8) -> Option<&'a [u8; TransitionRecord::SIZE]>
         ensures { TransitionAt self.now.bytes.now number result }
     {
@@ -87,6 +90,7 @@ impl<'a> PackedNet<'a> {
     }
 
     /// How many arcs the transition has on the side; 0 where there is no such transition.
+    #[inline]
     pub fn arc_count(&self, transition: u8, side: Side) -> u8
         ensures { result ≡ arcs_at self.now.bytes.now transition side }
     {
@@ -96,6 +100,7 @@ impl<'a> PackedNet<'a> {
 
     /// The slot of an arc, if there is such an arc. An arc is named by these three as net stores
     /// name it.
+    #[inline]
     pub fn slot(&self, transition: u8, side: Side, arc: u8) -> Option<Slot>
         ensures { result ≡ slot_at self.now.bytes.now transition side arc }
     {
@@ -109,6 +114,7 @@ impl<'a> PackedNet<'a> {
     }
 }
 
+#[inline]
 fn range<B: Bound>(slot: Slot) -> Range<B>
     ensures { result ≡ slot_range B.Bound.kind slot }
 {

@@ -23,6 +23,7 @@ pub struct Slot {
 }
 
 /// A bit of a byte, counted from the lowest.
+#[inline]
 fn bit(byte: u8, place: u8) -> bool
     requires { place < 8 }
     ensures { result ≡ (byte / 2 ^ place % 2 == 1) }
@@ -51,6 +52,7 @@ impl Slot {
     };
 
     /// The slot at the front of the bytes, and the bytes that follow it.
+    #[inline]
     pub fn split(bytes: &[u8]) -> Option<(Slot, &[u8])>
         ensures { SplitSlot bytes.now result }
     {

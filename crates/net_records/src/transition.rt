@@ -26,6 +26,7 @@ pub struct TransitionRecord {
 }
 
 /// How many arcs a side has, by the first byte of the record.
+#[inline]
 pub(crate) fn side_count(counts: u8, side: Side) -> u8
     ensures { result ≡ side_count side (transition_record (counts ∷ [])) }
 {

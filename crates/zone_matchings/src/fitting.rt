@@ -1,4 +1,5 @@
-// Which digits an arc can have, after those of the arcs before it.
+// Which digits an arc can have, after those of the arcs before it. A search asks this of each digit,
+// so the tests are inlined into it.
 ghost use Rattle.zones.specs.Digits.{digit_fits as fit_spec, Fitting};
 ghost use Rattle.zones.specs.Predecessors.{among as among_spec, stands as stands_spec};
 ghost use Rattle.std.specs.Prelude.{◌≡◌};
@@ -7,13 +8,15 @@ use crate::counted::numbered;
 use crate::outputs::Outputs;
 
 /// Whether the token is one of the digits.
+#[inline(always)]
 pub fn is_among(token: u8, digits: &[u8]) -> bool
     ensures { result ≡ among_spec token digits.now }
 {
-    digits.contains(&token)
+    digits.iter().any(|digit| *digit == token)
 }
 
 // Whether there is such a token, and in this place.
+#[inline(always)]
 fn stands_in(places: &[u8], token: u8, place: u8) -> bool
     ensures { result ≡ stands_spec places.now token place }
 {
@@ -23,6 +26,7 @@ fn stands_in(places: &[u8], token: u8, place: u8) -> bool
 
 impl<'a> Outputs<'a> {
     // Whether the arc after those with the digits `before` can have the digit.
+    #[inline(always)]
     pub(crate) fn fits(&self, before: &[u8], digit: u8) -> bool
         ensures { result ≡ fit_spec self.now.arcs.items self.now.tokens.now before.now digit }
     {
@@ -34,6 +38,7 @@ impl<'a> Outputs<'a> {
 
     // How many digits from the first on fit. By index, since each digit is tested after all those
     // before it.
+    #[inline(always)]
     pub(crate) fn count_fitting(&self, digits: &[u8]) -> usize
         ensures { Fitting self.now.arcs.items self.now.tokens.now digits.now result }
     {
